@@ -1,0 +1,3 @@
+// Tests of the geometry, the notations and the listing at the edges of what they take.
+#[cfg(test)]
+mod tests;

@@ -1,0 +1,6 @@
+mod din;
+mod lackey;
+mod lines;
+mod room;
+mod seen;
+mod shapes;
