@@ -1,0 +1,4 @@
+pub mod Recents
+pub mod OneList
+pub mod Opens
+pub mod Carries

@@ -1,0 +1,2 @@
+pub mod Occupancies
+pub mod Operations

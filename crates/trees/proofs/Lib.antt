@@ -1,0 +1,5 @@
+pub mod Trees
+pub mod Asks
+pub mod Raises
+pub mod Raising
+pub mod Extends

@@ -1,0 +1,4 @@
+use Rattle.trees.proofs.tree.+raise.Given as given
+
+abbrev pub μ-raise : given.MeasureT-raise
+μ-raise g l = l .height
