@@ -9,7 +9,7 @@ use Rattle.examples.specs.NearMisses.{gaps-by, verdicts-by, optgen, fits-after
 
 pub table-holds : Table-holds
 unfolding fits raise occupancies verdicts hits mark holds resident seat lowest rows-with rows
-table-holds = (refl, (refl, (refl, (refl, (refl, tt)))))
+table-holds = (refl, (refl, (refl, (refl, (refl, (refl, (refl, tt)))))))
 
 same-gaps : (W : ℕ) (ts : List ℕ) → gaps-by (optgen W) ts ≡ occupancies W ts
 unfolding occupancies

@@ -6,6 +6,7 @@ use Prim.Native.Nat.{ℕ}
 use Rattle.std.specs.shelf.Lists.{All}
 use Rattle.histories.specs.Rule.{tally, verdicts, hits}
 use Rattle.histories.specs.Schedule.{Row, rows}
+use Rattle.replacement.specs.Sets.{lru-hits, srrip-hits}
 
 -- different lines of one set
 abbrev pub A : ℕ
@@ -38,12 +39,16 @@ pub data Example : Type 0 where
   judged : (W : ℕ) (touches : List ℕ) (answer : List Bool) → Example
   scheduled : (W : ℕ) (touches : List ℕ) (answer : List (List ℕ)) → Example
   counted : (W : ℕ) (touches : List ℕ) (answer : ℕ) → Example
+  scored-by-lru : (W : ℕ) (touches : List ℕ) (answer : ℕ) → Example
+  scored-by-srrip : (W : ℕ) (touches : List ℕ) (answer : ℕ) → Example
 
 -- what an example says
 abbrev pub Holds : Example → Type 0
 Holds (judged W xs answer) = reverse (verdicts W (reverse xs)) ≡ answer
 Holds (scheduled W xs answer) = reverse (map bytes (rows W (reverse xs))) ≡ answer
 Holds (counted W xs answer) = hits W (reverse xs) ≡ answer
+Holds (scored-by-lru W xs answer) = lru-hits W xs ≡ answer
+Holds (scored-by-srrip W xs answer) = srrip-hits W xs ≡ answer
 
 abbrev pub table : List Example
 table =
@@ -52,6 +57,8 @@ table =
     ∷ scheduled 2 (A ∷ B ∷ A ∷ A ∷ C ∷ B ∷ C ∷ []) ((0 ∷ 1 ∷ 0 ∷ []) ∷ (0 ∷ 1 ∷ 1 ∷ []) ∷ (1 ∷ 1 ∷ 0 ∷ []) ∷ (1 ∷ 0 ∷ 0 ∷ []) ∷ (0 ∷ 1 ∷ 0 ∷ []) ∷ (1 ∷ 0 ∷ 1 ∷ []) ∷ (1 ∷ 0 ∷ 0 ∷ []) ∷ [])
     ∷ judged 1 (A ∷ B ∷ A ∷ B ∷ []) (m ∷ m ∷ h ∷ m ∷ [])
     ∷ counted 4 (A ∷ B ∷ C ∷ D ∷ A ∷ E ∷ B ∷ []) 2
+    ∷ scored-by-lru 4 (A ∷ B ∷ C ∷ D ∷ A ∷ E ∷ B ∷ []) 1
+    ∷ scored-by-srrip 4 (A ∷ B ∷ C ∷ D ∷ A ∷ E ∷ B ∷ []) 1
     ∷ []
 
 abbrev pub Table-holds : Type 0

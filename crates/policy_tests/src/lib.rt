@@ -1,0 +1,3 @@
+// Tests of the policies against counts of a plain simulator.
+#[cfg(test)]
+mod tests;
