@@ -2,6 +2,8 @@
 //!
 //! Each line of the output has a digit for each trace: the most hits that a legal history of it has. Traces stand in the order of the
 //! words AAA, AAB, AAC, ABA and so on, the first touch first. The line ends with whether OPTgen's rule counts the same for each.
+#![tactic(auto)]
+
 ghost use Rattle.std.specs.Prelude.{◌≡◌, ◌≤◌, true, length};
 ghost use Rattle.histories.specs.Rule.{fits, raise, occupancies, hits};
 

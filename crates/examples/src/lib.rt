@@ -1,4 +1,6 @@
 //! Worked examples of the definitions: each function ensures that its table holds.
+#![tactic(auto)]
+
 ghost use Rattle.examples.specs.Table.{TableHolds};
 ghost use Rattle.examples.specs.NearMisses.{NearMisses};
 

@@ -1,4 +1,6 @@
 // Reads a first line and a trace from standard input, and prints the listing of the trace.
+#![tactic(auto)]
+
 use listing::listing::listing;
 use std::io;
 use std::io::{Read, Write};

@@ -1,4 +1,6 @@
 // Prints the listing of each file that an argument names: each holds a first line and a trace, as the standard input of `grade` does.
+#![tactic(auto)]
+
 use listing::listing::listing;
 use std::io::Write;
 use std::{env, fs, io};

@@ -1,6 +1,8 @@
 //! One set of a cache: OPTgen's rule, legal histories, and why no history has more hits than the rule counts.
 //!
 //! The definitions and the statements stand in specs/. Each function here ensures one theorem, so that the check asks for its proof.
+#![tactic(auto)]
+
 ghost use Rattle.histories.specs.Rule.{RuleByIndex};
 ghost use Rattle.histories.specs.Histories.{Bounded, Rises};
 ghost use Rattle.histories.specs.Schedule.{KeptForHits, Attained, WaysFit, HeldByRows};

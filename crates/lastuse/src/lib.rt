@@ -1,5 +1,7 @@
 //! The last turn of each line of a set. Each line has one entry, in the order in which the lines came, and the entries of lines that share a chain lead
 //! to one another, from the newest to the oldest.
+#![tactic(auto)]
+
 ghost use Rattle.std.specs.Prelude.{◌≡◌, ◌<◌, MatchOption};
 ghost use Rattle.lastuse.specs.Chains.{chain_of, Chained, Latest, Absent, look};
 

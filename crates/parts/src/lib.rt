@@ -1,4 +1,6 @@
 //! Memory of several sets stands in one slice, cut into parts of equal size, one for each set.
+#![tactic(auto)]
+
 ghost use Rattle.std.specs.Prelude.{◌≡◌, ◌≤◌, length, drop};
 ghost use Rattle.parts.specs.Equal.{Apart, ApartSet, Filled};
 

@@ -1,4 +1,6 @@
 // The policy interface, and what is proved of every policy that keeps its meaning.
+#![tactic(auto)]
+
 ghost use Rattle.std.specs.Prelude.{◌≡◌, ℕ, List, map};
 ghost use Rattle.replacement.specs.Policy.{after, hits, found, Laws};
 ghost use Rattle.policy.specs.Histories.{Histories};

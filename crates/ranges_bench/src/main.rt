@@ -1,5 +1,7 @@
 // Measures the gaps of one set: n pushes, each after a question and a raise over a stretch that ends at the newest gap. Arguments: the height of the set
 // (at most 16), how many rounds from empty, and the longest stretch. It prints what was done, so that a timer outside can divide.
+#![tactic(auto)]
+
 use ranges::gaps::memory_for;
 use ranges::operations::{Answer, Operation, carry_out};
 use std::alloc::{AllocError, AllocFailed, Global};

@@ -1,4 +1,6 @@
 // What replacement policies mean: models of a row of ways, the rules of LRU and SRRIP, the laws of a policy. Each function here ensures theorems, so that the check asks for their proofs.
+#![tactic(auto)]
+
 ghost use Rattle.replacement.specs.Lru.{KeepsRecent, TouchedLater, LeavesOldest, AgesTell};
 ghost use Rattle.replacement.specs.Srrip.{AgesLow, Ripens, EvictsOldest};
 ghost use Rattle.replacement.specs.Ways.{empty_row};

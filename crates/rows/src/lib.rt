@@ -1,4 +1,6 @@
 // Rows of ways in memory, and the rules LRU and SRRIP on them.
+#![tactic(auto)]
+
 ghost use Rattle.std.specs.Prelude.{◌≡◌};
 
 use crate::lru::LruRow;

@@ -1,6 +1,8 @@
 //! The touches that a cache has taken, set by set, and one turn of a set by its gaps with the oldest first.
 //!
 //! The definitions and the statements stand in specs/. Each function here ensures one theorem, so that the check asks for its proof.
+#![tactic(auto)]
+
 ghost use Rattle.touches.specs.Taken.{Spread};
 ghost use Rattle.touches.specs.Turns.{TurnsGo, TurnsFound, Peaks};
 

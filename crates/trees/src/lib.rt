@@ -1,2 +1,4 @@
 // A tree of summaries over lent nodes, proved once for every lawful kind of summary.
+#![tactic(auto)]
+
 pub mod tree;
