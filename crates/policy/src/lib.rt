@@ -64,11 +64,11 @@ pub trait Policy {
 
 // Touches a policy with each line in turn: how many were held.
 pub fn touch_all<P: Policy>(policy: &mut P, lines: &[LineNumber]) -> usize
-    requires { ready policy.old }
-    ensures keeps { ready policy.new }
-    ensures count { result ≡ hits (found slog holds) next (state policy.old) (map line_number lines.now) }
-    ensures moves { state policy.new ≡ after next (state policy.old) (map line_number lines.now) }
-    ensures spares { spare policy.new ≡ spare policy.old }
+    requires { P.ready policy.old }
+    ensures keeps { P.ready policy.new }
+    ensures count { result ≡ hits (found P.slog P.holds) P.next (P.state policy.old) (map line_number lines.now) }
+    ensures moves { P.state policy.new ≡ after P.next (P.state policy.old) (map line_number lines.now) }
+    ensures spares { P.spare policy.new ≡ P.spare policy.old }
 {
     let mut hits = 0;
     for line in lines {
@@ -81,6 +81,6 @@ pub fn touch_all<P: Policy>(policy: &mut P, lines: &[LineNumber]) -> usize
 
 // Whatever a policy is told and however it is emptied: from its empty state on, what it holds in a set, turn by turn, is a legal history of the set's touches.
 pub fn holds_legally<P: Policy>(policy: &P)
-    requires { ready policy.now }
-    ensures { Histories slog wide holds next cleared (state policy.now) }
+    requires { P.ready policy.now }
+    ensures { Histories P.slog P.wide P.holds P.next P.cleared (P.state policy.now) }
 {}

@@ -43,8 +43,8 @@ pub fn ask<K: Kind>(
     from: usize,
     to: usize,
 ) -> K
-    requires { Sound alg height count nodes.now recent.now }
-    ensures { result ≡ summary alg (between from to (occupancies height count nodes.now recent.now)) }
+    requires { Sound K.alg height count nodes.now recent.now }
+    ensures { result ≡ summary K.alg (between from to (occupancies height count nodes.now recent.now)) }
 {
     let older = in_tree(count);
     let end = to.min(count);
@@ -67,10 +67,10 @@ pub fn raise<K: Kind>(
     from: usize,
     to: usize,
 )
-    requires sound { Sound alg height count nodes.old recent.old }
+    requires sound { Sound K.alg height count nodes.old recent.old }
     requires within { to ≤ count }
     requires small { Small (bump from to (occupancies height count nodes.old recent.old)) }
-    ensures sound { Sound alg height count nodes.new recent.new }
+    ensures sound { Sound K.alg height count nodes.new recent.new }
     ensures gaps { occupancies height count nodes.new recent.new ≡ bump from to (occupancies height count nodes.old recent.old) }
 {
     let older = in_tree(count);
@@ -100,10 +100,10 @@ pub fn shift(recent: &mut [u8])
 
 // Adds a gap of occupancy 0 at the end. A full array then hands its older half over to the tree.
 pub fn push<K: Kind>(nodes: &mut [Node<K>], recent: &mut [u8], height: u32, count: usize)
-    requires sound { Sound alg height count nodes.old recent.old }
+    requires sound { Sound K.alg height count nodes.old recent.old }
     requires free { count < leaves height }
     requires few { count < 2 ^ 20 }
-    ensures sound { Sound alg height (count + 1) nodes.new recent.new }
+    ensures sound { Sound K.alg height (count + 1) nodes.new recent.new }
     ensures gaps { occupancies height (count + 1) nodes.new recent.new ≡ occupancies height count nodes.old recent.old ++ (0 ∷ []) }
 {
     let older = in_tree(count);
@@ -142,7 +142,7 @@ pub fn memory_for(height: u32) -> Option<Memory>
 // Makes a tree without gaps, for any array beside it.
 pub fn clear<K: Kind>(nodes: &mut [Node<K>], height: u32)
     requires { length nodes.old ≡ size height }
-    ensures { (recent : List ℕ) → length recent ≡ recents height → Sound alg height 0 nodes.new recent }
+    ensures { (recent : List ℕ) → length recent ≡ recents height → Sound K.alg height 0 nodes.new recent }
 {
     let blank = Node::blank();
     for node in nodes.iter_mut() {

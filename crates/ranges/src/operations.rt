@@ -33,7 +33,7 @@ fn is_low<K: Kind>(
     from: usize,
     to: usize,
 ) -> bool
-    requires { Sound (both peak alg) height count nodes.now recent.now }
+    requires { Sound (both peak K.alg) height count nodes.now recent.now }
     ensures { result ≡ all_below 16 (between from to (occupancies height count nodes.now recent.now)) }
 {
     match ask(nodes, recent, height, count, from, to)
@@ -53,11 +53,11 @@ fn step<K: Kind>(
     count: usize,
     operation: Operation,
 ) -> (Answer<K>, usize)
-    requires sound { Sound (both peak alg) height count nodes.old recent.old }
+    requires sound { Sound (both peak K.alg) height count nodes.old recent.old }
     requires low { height ≤ 16 }
-    ensures sound { Sound (both peak alg) height result.1 nodes.new recent.new }
+    ensures sound { Sound (both peak K.alg) height result.1 nodes.new recent.new }
     ensures gaps { occupancies height result.1 nodes.new recent.new ≡ after height operation (occupancies height count nodes.old recent.old) }
-    ensures answer { result.0 ≡ reply alg height operation (occupancies height count nodes.old recent.old) }
+    ensures answer { result.0 ≡ reply K.alg height operation (occupancies height count nodes.old recent.old) }
 {
     match operation {
         Operation::Push => {
@@ -96,9 +96,9 @@ fn work<K: Kind>(
     requires long { length nodes.old ≡ size height }
     requires wide { length recent.old ≡ recents height }
     requires room { length answers.old ≡ length operations.now }
-    ensures sound { Sound (both peak alg) height result nodes.new recent.new }
+    ensures sound { Sound (both peak K.alg) height result nodes.new recent.new }
     ensures gaps { occupancies height result nodes.new recent.new ≡ ending height operations.now [] }
-    ensures replied { answers.new ≡ replies alg height operations.now [] }
+    ensures replied { answers.new ≡ replies K.alg height operations.now [] }
 {
     clear(nodes, height);
     let mut count = 0;
@@ -118,7 +118,7 @@ pub fn carry_out<K: Kind>(
     operations: &[Operation],
     answers: &mut [Answer<K>],
 ) -> Option<usize>
-    ensures { MatchOption result (Untouched height operations.now nodes.old nodes.new recent.old recent.new answers.old answers.new) (λ n. Carried alg height n operations.now nodes.old nodes.new recent.old recent.new answers.old answers.new) }
+    ensures { MatchOption result (Untouched height operations.now nodes.old nodes.new recent.old recent.new answers.old answers.new) (λ n. Carried K.alg height n operations.now nodes.old nodes.new recent.old recent.new answers.old answers.new) }
 {
     let memory = memory_for(height)?;
     if nodes.len() < memory.nodes

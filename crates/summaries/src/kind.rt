@@ -35,7 +35,7 @@ pub trait Kind: Copy {
 // The summary of a plain row of occupancies.
 pub fn summary_of<K: Kind>(occupancies: &[u8]) -> K
     requires { Small occupancies.now }
-    ensures { result ≡ summary alg occupancies.now }
+    ensures { result ≡ summary K.alg occupancies.now }
 {
     let mut whole = K::empty();
     for occupancy in occupancies {

@@ -17,7 +17,7 @@ pub struct Node<K> {
 impl<K: Kind> Node<K> {
     // What each node of a tree without gaps holds.
     pub fn blank() -> Node<K>
-        ensures { result ≡ record { value = alg.none; pending = 0 } }
+        ensures { result ≡ record { value = K.alg.none; pending = 0 } }
     {
         Node {
             value: K::empty(),
@@ -30,9 +30,9 @@ impl<K: Kind> Node<K> {
 pub fn ask<K: Kind>(nodes: &[Node<K>], height: u32, count: usize, from: usize, to: usize) -> K
     requires long { length nodes.now ≡ size height }
     requires room { count ≤ leaves height }
-    requires good { Good alg height count nodes.now }
+    requires good { Good K.alg height count nodes.now }
     requires small { Small (gaps height count nodes.now) }
-    ensures { result ≡ summary alg (between from to (gaps height count nodes.now)) }
+    ensures { result ≡ summary K.alg (between from to (gaps height count nodes.now)) }
 {
     let root = nodes[0];
     if to <= from || count <= from {
@@ -58,12 +58,12 @@ pub fn ask<K: Kind>(nodes: &[Node<K>], height: u32, count: usize, from: usize, t
 pub fn raise<K: Kind>(nodes: &mut [Node<K>], height: u32, count: usize, from: usize, to: usize) -> K
     requires long { length nodes.old ≡ size height }
     requires room { count ≤ leaves height }
-    requires good { Good alg height count nodes.old }
+    requires good { Good K.alg height count nodes.old }
     requires within { to ≤ count }
     requires small { Small (bump from to (gaps height count nodes.old)) }
-    ensures good { Good alg height count nodes.new }
+    ensures good { Good K.alg height count nodes.new }
     ensures gaps { gaps height count nodes.new ≡ bump from to (gaps height count nodes.old) }
-    ensures value { result ≡ summary alg (bump from to (gaps height count nodes.old)) }
+    ensures value { result ≡ summary K.alg (bump from to (gaps height count nodes.old)) }
 {
     let root = nodes[0];
     if to <= from {
@@ -105,11 +105,11 @@ pub fn raise<K: Kind>(nodes: &mut [Node<K>], height: u32, count: usize, from: us
 pub fn extend<K: Kind>(nodes: &mut [Node<K>], height: u32, count: usize, block: &[u8]) -> K
     requires long { length nodes.old ≡ size height }
     requires room { count + length block.now ≤ leaves height }
-    requires good { Good alg height count nodes.old }
+    requires good { Good K.alg height count nodes.old }
     requires small { Small (gaps height count nodes.old ++ block.now) }
-    ensures good { Good alg height (count + length block.now) nodes.new }
+    ensures good { Good K.alg height (count + length block.now) nodes.new }
     ensures gaps { gaps height (count + length block.now) nodes.new ≡ gaps height count nodes.old ++ block.now }
-    ensures value { result ≡ summary alg (gaps height count nodes.old ++ block.now) }
+    ensures value { result ≡ summary K.alg (gaps height count nodes.old ++ block.now) }
 {
     let root = nodes[0];
     if block.len() == 0 {

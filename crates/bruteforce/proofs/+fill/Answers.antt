@@ -3,11 +3,11 @@ use Rattle.std.proofs.lemmas.Bool.{eqb-true, eq-eqb}
 use Rattle.bruteforce.proofs.Steps.{fits_first, fits_rest, raise_last, raise_more}
 use Rattle.bruteforce.proofs.+fill.Goals as goal
 
-pub returns-then-is-empty : goal.returns-then-is-empty
-returns-then-is-empty t c = absurd (omega (arith, eqb-true _ _ (sym c.if-is-empty.ensures), (fits_first _ _ _ _ c.requires.room).0))
+pub returns-then-is_empty : goal.returns-then-is_empty
+returns-then-is_empty t c = absurd (omega (arith, eqb-true _ _ (sym c.if-is_empty.ensures), (fits_first _ _ _ _ c.requires.room).0))
 
-pub overflow-add-gaps : goal.overflow-add-gaps
-overflow-add-gaps t c = omega (arith, (fits_first _ _ _ _ c.requires.room).2, c.ranges.ways.fits)
+pub overflow_add-gaps : goal.overflow_add-gaps
+overflow_add-gaps t c = omega (arith, (fits_first _ _ _ _ c.requires.room).2, c.ranges.ways.fits)
 
 pub fill-requires : goal.fill-requires
 fill-requires t c = (search rules, (search rules, fits_rest _ _ _ _ c.requires.room c.if-line-touches.true))

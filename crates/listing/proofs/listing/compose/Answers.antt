@@ -6,7 +6,7 @@ use Rattle.listing.specs.Listing.{first_of, stop}
 use Rattle.listing.proofs.Firsts.{empty_first}
 use Rattle.listing.proofs.listing.compose.Goals as goal
 
-pub returns-in-default : goal.returns-in-default
-returns-in-default c =
-    let none = sym c.new-lines.ensures.lines ∙ c.in-default.ensures.line in
-    inr (omega arith, (Err 1, empty_first _ none, c.write-stop-in-default.ensures ∙ ap (λ p. p ++ stop WrongFirst 1 1) c.requires.1))
+pub returns-in_default : goal.returns-in_default
+returns-in_default c =
+    let none = sym c.new-lines.ensures.lines ∙ c.in_default.ensures.line in
+    inr (omega arith, (Err 1, empty_first _ none, c.write_stop-in_default.ensures ∙ ap (λ p. p ++ stop WrongFirst 1 1) c.requires.1))

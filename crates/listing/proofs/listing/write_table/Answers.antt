@@ -8,7 +8,7 @@ loop-set-preserved c =
     let i = c.loop-set.invariant in
     let more = sum_by_more (λ n. n) c.args.counts.now c.loop-set.set 0 (omega arith) in
     let total = i.2 in
-    (omega (arith, c.write-set.ensures.long), more_rows _ _ _ c.args.counts.now c.loop-set.set i.1 c.write-set.ensures.shown, omega arith, omega arith)
+    (omega (arith, c.write_set.ensures.long), more_rows _ _ _ c.args.counts.now c.loop-set.set i.1 c.write_set.ensures.shown, omega arith, omega arith)
 
 pub returns : goal.returns
 returns c = record {

@@ -5,8 +5,8 @@ use Rattle.notations.proofs.lackey.access.Goals as goal
 pub returns-then-count-eq0 : goal.returns-then-count-eq0
 returns-then-count-eq0 c = (opened_told _ _, no_digits _ _ _ _ c.figures-count.ensures c.if-count-eq0.true)
 
-pub returns-in-default : goal.returns-in-default
-returns-in-default c = (opened_told _ _, no_comma _ _ _ _ c.figures-count.ensures (omega arith) c.in-default.ensures)
+pub returns-in_default : goal.returns-in_default
+returns-in_default c = (opened_told _ _, no_comma _ _ _ _ c.figures-count.ensures (omega arith) c.in_default.ensures)
 
 pub returns-then-size-eq0 : goal.returns-then-size-eq0
 returns-then-size-eq0 c =

@@ -8,11 +8,11 @@ turn c =
     let d = c.in-Some.ensures.value in
     longer _ c.args.most _ _ _ _ c.requires.0 c.requires.2 (omega arith) (omega arith) c.loop-count.invariant.0 c.loop-count.invariant.1 d.0 d.1
 
-pub overflow-mul-value : goal.overflow-mul-value
-overflow-mul-value c = let t = (turn (goal.at.overflow-mul-value c).In-Some).fits in omega arith
+pub overflow_mul-value : goal.overflow_mul-value
+overflow_mul-value c = let t = (turn (goal.at.overflow_mul-value c).In-Some).fits in omega arith
 
-pub overflow-add-value : goal.overflow-add-value
-overflow-add-value c = let t = (turn (goal.at.overflow-add-value c).In-Some).fits in omega arith
+pub overflow_add-value : goal.overflow_add-value
+overflow_add-value c = let t = (turn (goal.at.overflow_add-value c).In-Some).fits in omega arith
 
 pub loop-count-preserved : goal.loop-count-preserved
 loop-count-preserved c = let t = turn (goal.at.loop-count-preserved c).In-Some in (t.digits, t.is)

@@ -5,19 +5,19 @@ use Rattle.ranges.proofs.gaps.push.Goals as goal
 pub extend-requires : goal.extend-requires
 extend-requires g c =
     let s = pushing c.args.height c.args.count c.args.nodes.now c.args.recent.now c.requires.sound c.requires.free c.requires.few in
-    let o_is = c.in-tree-older.ensures in
+    let o_is = c.in_tree-older.ensures in
     let m = s.full (omega (arith, c.if-newer.true, o_is)) in
     let written_is = ap (λ i. set c.args.recent.now (c.args.count - i) 0) o_is in
-    let block_is = c.oldest-block-block.ensures ∙ ap (take 64) written_is in
+    let block_is = c.oldest_block-block.ensures ∙ ap (take 64) written_is in
     rw (o_is, block_is) (record { long = c.requires.sound.long; room = m.room; good = c.requires.sound.good; small = m.small })
 
 pub returns-then-newer : goal.returns-then-newer
 returns-then-newer g c =
     let s = pushing c.args.height c.args.count c.args.nodes.now c.args.recent.now c.requires.sound c.requires.free c.requires.few in
-    let o_is = c.in-tree-older.ensures in
+    let o_is = c.in_tree-older.ensures in
     let m = s.full (omega (arith, c.if-newer.true, o_is)) in
     let written_is = ap (λ i. set c.args.recent.now (c.args.count - i) 0) o_is in
-    let block_is = c.oldest-block-block.ensures ∙ ap (take 64) written_is in
+    let block_is = c.oldest_block-block.ensures ∙ ap (take 64) written_is in
     let good = rw (o_is, block_is) at c.extend.ensures.good in
     let older = rw (o_is, block_is) at c.extend.ensures.gaps in
     let newer = c.shift.ensures ∙ ap (λ ys. take 64 (drop 64 ys)) written_is in
@@ -27,6 +27,6 @@ returns-then-newer g c =
 pub returns-else-newer : goal.returns-else-newer
 returns-else-newer g c =
     let s = pushing c.args.height c.args.count c.args.nodes.now c.args.recent.now c.requires.sound c.requires.free c.requires.few in
-    let o_is = c.in-tree-older.ensures in
+    let o_is = c.in_tree-older.ensures in
     let b = s.plain (λ e. c.if-newer.false (omega (arith, e, o_is))) in
     rw o_is (record { sound = b.0; gaps = b.1 })

@@ -6,8 +6,8 @@ use Rattle.ranges.proofs.gaps.raise_recent.Goals as goal
 pub loop-i-init : goal.loop-i-init
 loop-i-init c = (sym (bump_none c.args.from c.args.from c.args.recent.now (omega arith)), omega arith)
 
-pub overflow-add-recent : goal.overflow-add-recent
-overflow-add-recent c = let low = turn_low 16 c.args.from c.args.to c.loop-i.i c.args.recent.now c.loop-i.recent c.loop-i.invariant.0 c.loop-i.auto.i c.loop-i-test.true (omega (arith, c.requires.within)) c.requires.low in omega (arith, low)
+pub overflow_add-recent : goal.overflow_add-recent
+overflow_add-recent c = let low = turn_low 16 c.args.from c.args.to c.loop-i.i c.args.recent.now c.loop-i.recent c.loop-i.invariant.0 c.loop-i.auto.i c.loop-i-test.true (omega (arith, c.requires.within)) c.requires.low in omega (arith, low)
 
 pub loop-i-preserved : goal.loop-i-preserved
 loop-i-preserved c =

@@ -5,8 +5,8 @@ use Rattle.ranges.proofs.operations.work.Goals as goal
 pub loop-i-init : goal.loop-i-init
 loop-i-init g c = going_none c.requires.room (c.clear.ensures c.args.recent.now c.requires.wide)
 
-pub offset-bounds-answers-i : goal.offset-bounds-answers-i
-offset-bounds-answers-i g c =
+pub offset_bounds-answers-i : goal.offset_bounds-answers-i
+offset_bounds-answers-i g c =
     let lt : c.loop-i.i < length c.args.operations.now = c.loop-i-test.true in
     let within : c.loop-i.i < length c.args.answers.now = omega (arith, lt, c.requires.room) in
     search rules

@@ -5,11 +5,11 @@ use Rattle.listing.proofs.first.parsing.small_number.Goals as goal
 pub returns-in-len1 : goal.returns-in-len1
 returns-in-len1 c = ones_read _ c.digit.result (omega (arith, ltb-false, ltb-true)) c.digit.ensures
 
-pub returns-in-default-digit : goal.returns-in-default-digit
-returns-in-default-digit c = no_tens _ (omega (arith, ltb-false, ltb-true)) c.in-default-digit.ensures
+pub returns-in_default-digit : goal.returns-in_default-digit
+returns-in_default-digit c = no_tens _ (omega (arith, ltb-false, ltb-true)) c.in_default-digit.ensures
 
-pub returns-in-default-digit-2 : goal.returns-in-default-digit-2
-returns-in-default-digit-2 c = no_second _ (omega (arith, ltb-false, ltb-true)) c.in-default-digit-2.ensures
+pub returns-in_default-digit-2 : goal.returns-in_default-digit-2
+returns-in_default-digit-2 c = no_second _ (omega (arith, ltb-false, ltb-true)) c.in_default-digit-2.ensures
 
 pub returns-in-Some-digit : goal.returns-in-Some-digit
 returns-in-Some-digit c =

@@ -11,5 +11,5 @@ pub returns : goal.returns
 unfolding shown
 returns c =
     let whole : c.args.self.now.length - 0 ≡ c.args.self.now.length = omega arith in
-    let text = c.copy-from-slice.ensures.after ∙ ap (λ k. take k c.args.self.now.bytes) whole in
+    let text = c.copy_from_slice.ensures.after ∙ ap (λ k. take k c.args.self.now.bytes) whole in
     (sym (length-take-le c.args.self.now.length c.args.self.now.bytes (omega arith)), c.if-length-out.false, λ i. text i ++ drop (whole i) c.args.out.now)

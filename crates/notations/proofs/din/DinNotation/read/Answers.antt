@@ -6,10 +6,10 @@ use Rattle.notations.proofs.din.DinNotation.read.Goals as goal
 pub returns-then-before-line : goal.returns-then-before-line
 returns-then-before-line c = blank_line _ _ c.indent-before.ensures c.if-before-line.true
 
-pub returns-in-default : goal.returns-in-default
-returns-in-default c =
+pub returns-in_default : goal.returns-in_default
+returns-in_default c =
     let low : c.indent-before.result < length c.args.line.now = omega arith in
-    (solid_line _ _ c.indent-before.ensures low, no_label _ _ c.indent-before.ensures low c.in-default.ensures)
+    (solid_line _ _ c.indent-before.ensures low, no_label _ _ c.indent-before.ensures low c.in_default.ensures)
 
 pub returns-then-gap-eq0 : goal.returns-then-gap-eq0
 returns-then-gap-eq0 c =

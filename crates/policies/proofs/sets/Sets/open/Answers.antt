@@ -5,15 +5,15 @@ use Rattle.policies.proofs.Memory.{uses}
 use Rattle.policies.proofs.sets.Sets.open.Goals as goal
 
 pub clear-requires : goal.clear-requires
-clear-requires g c = (uses (length c.args.rows.now) c.args.s c.args.ways c.rows-used-sets.result c.rows-used-sets.ensures).long
+clear-requires g c = (uses (length c.args.rows.now) c.args.s c.args.ways c.rows_used-sets.result c.rows_used-sets.ensures).long
 
 pub returns : goal.returns
 returns g c =
     let m = g.R.RowRule in
     let s = c.args.s in
     let w = c.args.ways in
-    let n = c.rows-used-sets.result in
-    let is = c.rows-used-sets.ensures in
+    let n = c.rows_used-sets.result in
+    let is = c.rows_used-sets.ensures in
     let u = uses (length c.args.rows.now) s w n is in
     let rows = c.clear.new.rows in
     let long : n ≤ length rows = omega (arith, u.long, c.clear.auto.rows) in

@@ -21,7 +21,7 @@ pub returns : goal.returns
 returns c =
     let w = c.args.ways in
     let s = c.args.self.now.row.ways in
-    let miss = c.in-default.ensures in
+    let miss = c.in_default.ensures in
     let chosen : Chosen (take w s) c.match-choose.w.0 c.match-choose.w.1 = elim c.match-choose.branch [
       | in-Empty k ↦ let h = k.in-Empty.ensures in subst (λ (p : ℕ × ℕ). Chosen (take w s) p.0 p.1) (sym k.w-is) (record { inside = h.1; how = inl (h.0, sym c.requires.fine.0) })
       | in-Oldest k ↦ let h = k.in-Oldest.ensures in subst (λ (p : ℕ × ℕ). Chosen (take w s) p.0 p.1) (sym k.w-is) (record { inside = h.3; how = inr (h.0, h.1, h.2) })

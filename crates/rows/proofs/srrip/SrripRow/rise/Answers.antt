@@ -4,8 +4,8 @@ use Rattle.replacement.specs.Srrip.{risen}
 use Rattle.replacement.proofs.Ways.{pass_more, pass_all, pass_low}
 use Rattle.rows.proofs.srrip.SrripRow.rise.Goals as goal
 
-pub overflow-add-at : goal.overflow-add-at
-overflow-add-at c =
+pub overflow_add-at : goal.overflow_add-at
+overflow_add-at c =
     let long = c.at.ensures.long in
     let low = pass_low (risen c.args.by) c.args.n c.args.self.now.row.ways c.loop-w.self.row.ways c.loop-w.w c.at.result.now
     (omega (arith, long, c.loop-w.invariant.1, c.requires.few)) c.loop-w-test.true (c.at.ensures.value _) c.loop-w.invariant.0 in

@@ -12,11 +12,11 @@ returns-in-Some c =
 pub returns-in-Empty : goal.returns-in-Empty
 returns-in-Empty c =
     let f = c.in-Empty.ensures in
-    let miss = c.in-default.ensures in
+    let miss = c.in_default.ensures in
     record { moves = fill_moves c.args.ways c.in-Empty.w c.args.line.0 c.args.self.now.row.ways miss f.0 f.1; answer = sym miss }
 
 pub returns-in-Oldest : goal.returns-in-Oldest
 returns-in-Oldest c =
     let f = c.in-Oldest.ensures in
-    let miss = c.in-default.ensures in
+    let miss = c.in_default.ensures in
     record { moves = evict_moves c.args.ways c.in-Oldest.w c.in-Oldest.age c.args.line.0 c.args.self.now.row.ways c.rise.new.self.row.ways c.requires.fine c.requires.some miss f.0 f.1 f.2 c.rise.ensures; answer = sym miss }

@@ -4,8 +4,8 @@ use Rattle.summaries.specs.Kinds.{of_highest, peak, peak_fits}
 use Rattle.summaries.specs.KindLaws.{peak_ups, peak_ups_none}
 use Rattle.summaries.proofs.kind.PeakKind.raise_by.Goals as goal
 
-pub overflow-add-result : goal.overflow-add-result
-overflow-add-result c =
+pub overflow_add-result : goal.overflow_add-result
+overflow_add-result c =
     let e = ap (λ o. ups peak c.args.times (of_highest o)) c.in-Some.is ∙ peak_ups c.args.times c.in-Some.a in
     let h = subst peak_fits e c.requires in
     omega (arith, h)
