@@ -45,24 +45,26 @@ look_set es fs (suc n) x t i l o el et y = ⊎_elim
     (λ same. let old : (at es n).line.0 ≡ x = ap (λ j. (at es j).line.0) (sym same) ∙ l.here in
     let new : (at fs n).line.0 ≡ x = ap (λ j. (at fs j).line.0) (sym same) ∙ el in
     let now : (at fs n).last ≡ t = ap (λ j. (at fs j).last) (sym same) ∙ et in
-    rw (new, now, old, look_same es fs n (λ k b. o k (omega arith)) y) (twice (eqb y x) (Some t) (Some (at es n).last) (look es n y)))
+    rw (new, now, old, look_same es fs n (λ k b. o k (omega arith)) y) (twice y x (Some t) (Some (at es n).last) (look es n y)))
     (λ apart. let w = l.within in
     let ne : (at es n).line.0 ≢ x = λ e. l.newer n (omega arith) (omega arith) e in
     let ih = look_set es fs n x t i (record { within = omega arith; here = l.here; newer = λ k a b. l.newer k a (omega arith) }) o el et y in
     rw (o n (λ e. apart (sym e)), ih) (swap y x (at es n).line.0 (Some t) (Some (at es n).last) (look es n y) ne))
     (cases_eq i n)
   where
-    twice : (b : Bool) (u v w : Option ℕ) → cond b u w ≡ cond b u (cond b v w)
-    twice true u v w = refl
-    twice false u v w = refl
+    twice : (y x : ℕ) (u v w : Option ℕ) → cond (eqb y x) u w ≡ cond (eqb x y) u (cond (eqb y x) v w)
+    twice y x u v w = grind (arith, nat_tests)
 
-    swap : (y x z : ℕ) (u v w : Option ℕ) → z ≢ x → cond (eqb y z) v (cond (eqb y x) u w) ≡ cond (eqb y x) u (cond (eqb y z) v w)
+    swap : (y x z : ℕ) (u v w : Option ℕ) → z ≢ x → cond (eqb y z) v (cond (eqb x y) u w) ≡ cond (eqb x y) u (cond (eqb y z) v w)
     swap y x z u v w ne = grind (arith, nat_tests)
 
 -- one more entry
 look_push : (es fs : List Entry) (n x t : ℕ) → ((k : ℕ) → k ≢ n → at fs k ≡ at es k) → (at fs n).line.0 ≡ x → (at fs n).last ≡ t
     → (y : ℕ) → look fs (n + 1) y ≡ update eqb (look es n) x (Some t) y
-look_push es fs n x t o el et y = rw (add-one, el, et, look_same es fs n (λ k b. o k (omega arith)) y)
+look_push es fs n x t o el et y = rw (add-one, el, et, look_same es fs n (λ k b. o k (omega arith)) y) (turned y x (Some t) (look es n y))
+  where
+    turned : (y x : ℕ) (u w : Option ℕ) → cond (eqb y x) u w ≡ cond (eqb x y) u w
+    turned y x u w = grind (arith, nat_tests)
 
 -- a link stays right where the lines stay
 leads_same : (es fs : List Entry) (m h n c : ℕ) → ((k : ℕ) → k < n → (at fs k).line.0 ≡ (at es k).line.0) → Leads es m h n c → Leads fs m h n c
