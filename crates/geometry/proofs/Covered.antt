@@ -1,7 +1,7 @@
 -- The lines of an access are those in which a byte of it lies, ascending.
 use Rattle.std.proofs.Common.{◌≡◌, ℕ, zero, suc, ◌+◌, ◌-◌, ◌*◌, ◌/◌, ◌^◌, ◌<◌, ◌≤◌, List, [], ◌∷◌, length, get_or, sym, refl, ap, ◌∙◌, subst, ⊎_elim, le-div_iff_mul-le, mul-div_cancel, arith, pow_pos}
 use lib.Pow.{shr_mono}
-use Rattle.std.specs.List.{ContainsAt as Has, AllByRecursion as All}
+use Rattle.std.specs.List.{ContainsAt as Has, AllByRecursion}
 use Rattle.std.proofs.ByRecursion.{All-weaker}
 use Rattle.std.proofs.lemmas.Bool.{cases_lt}
 use Rattle.geometry.specs.Lines.{upward, lines, Touched, Ascending, Covers}
@@ -15,7 +15,7 @@ get_or_upward a zero k d h = absurd (omega arith)
 get_or_upward a (suc n) zero d h = omega arith
 get_or_upward a (suc n) (suc k) d h = let e = get_or_upward (suc a) n k d (omega arith) in omega arith
 
-above : (a m n : ℕ) → a < m → All (λ y. a < y) (upward m n)
+above : (a m n : ℕ) → a < m → AllByRecursion (λ y. a < y) (upward m n)
 above a m zero h = tt
 above a m (suc n) h = (h, above a (suc m) n (omega arith))
 

@@ -1,6 +1,6 @@
 -- The lines that an access touches: every line in which one of its bytes lies, ascending, once each.
 use Rattle.std.specs.Prelude.{◌≡◌, ℕ, zero, suc, ◌+◌, ◌-◌, ◌/◌, ◌^◌, ◌<◌, ◌≤◌, ◌⊎◌, List, [], ◌∷◌, Ok, Err, Result}
-use Rattle.std.specs.List.{ContainsAt as Has, AllByRecursion as All}
+use Rattle.std.specs.List.{ContainsAt as Has, AllByRecursion}
 use Rattle.geometry.specs.declared.access.LineSpan.{LineSpan}
 use Rattle.geometry.specs.declared.refusal.Refusal.{Refusal}
 use Rattle.geometry.specs.declared.refusal.Refusal.TheVariants.{Size, PastMemory}
@@ -33,7 +33,7 @@ Touched b address size y = (i : ℕ) × (i < size) × ((address + i) / 2 ^ b ≡
 -- each number is less than all that follow it
 abbrev pub Ascending : List ℕ → Type 0
 Ascending [] = Unit {0}
-Ascending (x ∷ xs) = All (λ y. x < y) xs × Ascending xs
+Ascending (x ∷ xs) = AllByRecursion (λ y. x < y) xs × Ascending xs
 
 -- The lines of an access are those in which its bytes lie, and no others, ascending (so that none comes twice).
 abbrev pub Covers : Type 0

@@ -1,13 +1,13 @@
 -- The first field of a line, and what is left.
 use Rattle.std.proofs.Common.{◌≡◌, ℕ, ◌+◌, ◌-◌, ◌<◌, ◌≤◌, Bool, true, false, cond, eqb, leb, ◌⊎◌, List, [], ◌∷◌, ◌++◌, length, get_or, take, drop, sym, refl, ap, ◌∙◌, subst, inl, inr, ⊎_elim, arith, length-drop, take-append-drop, rules}
-use Rattle.std.specs.List.{between, AllByRecursion as All}
+use Rattle.std.specs.List.{between, AllByRecursion}
 use Rattle.std.proofs.lemmas.List.{drop_more, take_all, take_rest, drop-drop, length-take-le}
 use Rattle.std.proofs.lemmas.Bool.{cases_lt}
 use Rattle.notations.specs.Text.{onto, LongestWithout}
 use Rattle.listing.specs.Fields.{fields, from}
 
 abbrev Free : List ℕ → Type 0
-Free l = All (λ b. b ≡ 32 → ⊥) l
+Free l = AllByRecursion (λ b. b ≡ 32 → ⊥) l
 
 other : (b : ℕ) → (b ≡ 32 → ⊥) → eqb b 32 ≡ false
 other b ne = search rules

@@ -1,12 +1,12 @@
 -- The first line of a text, and the text from its lines.
 use Rattle.std.proofs.Common.{◌≡◌, ℕ, ◌+◌, ◌-◌, ◌<◌, ◌≤◌, Bool, true, false, cond, eqb, ◌⊎◌, List, [], ◌∷◌, ◌++◌, length, get_or, take, drop, sym, refl, ap, ◌∙◌, subst, inl, inr, ⊎_elim, append-nil, arith, length-drop, take-append-drop, rules, eqb-true}
-use Rattle.std.specs.List.{between, AllByRecursion as All}
+use Rattle.std.specs.List.{between, AllByRecursion}
 use Rattle.std.proofs.lemmas.List.{drop_all, drop_more, take_all, take_rest, drop-drop, nil_from_length}
 use Rattle.std.proofs.lemmas.Bool.{cases_lt}
 use Rattle.notations.specs.Text.{onto, lines, ended, Rejoins, LongestWithout}
 
 abbrev Free : List ℕ → Type 0
-Free l = All (λ b. b ≡ 10 → ⊥) l
+Free l = AllByRecursion (λ b. b ≡ 10 → ⊥) l
 
 other : (b : ℕ) → (b ≡ 10 → ⊥) → eqb b 10 ≡ false
 other b ne = search rules
@@ -50,7 +50,7 @@ next_line text at n next low some h way =
     dropped e = ap (drop (n + 1)) (take_rest text at) ∙ drop-drop (n + 1) at text ∙ (let s : at + (n + 1) ≡ next = omega arith in ap (λ k. drop k text) s)
 
 -- one byte before the lines of a text
-before : (b : ℕ) (bs : List ℕ) (ls : List (List ℕ)) → (b ≡ 10 → ⊥) → All Free ls → (ended ls ≡ bs) ⊎ (ended ls ≡ bs ++ 10 ∷ []) → All Free (onto b ls) × ((ended (onto b ls) ≡ b ∷ bs) ⊎ (ended (onto b ls) ≡ (b ∷ bs) ++ 10 ∷ []))
+before : (b : ℕ) (bs : List ℕ) (ls : List (List ℕ)) → (b ≡ 10 → ⊥) → AllByRecursion Free ls → (ended ls ≡ bs) ⊎ (ended ls ≡ bs ++ 10 ∷ []) → AllByRecursion Free (onto b ls) × ((ended (onto b ls) ≡ b ∷ bs) ⊎ (ended (onto b ls) ≡ (b ∷ bs) ++ 10 ∷ []))
 before b bs [] ne free e =
     (((ne, tt), tt), ⊎_elim (λ f. inr (ap (λ r. b ∷ (r ++ 10 ∷ [])) f)) (λ f. absurd (no_text bs f)) e)
   where
@@ -64,7 +64,7 @@ pub rejoins : Rejoins
 rejoins [] = (tt, inl refl)
 rejoins (b ∷ bs) = go (eqb b 10) refl (rejoins bs)
   where
-    go : (t : Bool) → eqb b 10 ≡ t → All Free (lines bs) × ((ended (lines bs) ≡ bs) ⊎ (ended (lines bs) ≡ bs ++ 10 ∷ [])) → All Free (cond t ([] ∷ lines bs) (onto b (lines bs))) × ((ended (cond t ([] ∷ lines bs) (onto b (lines bs))) ≡ b ∷ bs) ⊎ (ended (cond t ([] ∷ lines bs) (onto b (lines bs))) ≡ (b ∷ bs) ++ 10 ∷ []))
+    go : (t : Bool) → eqb b 10 ≡ t → AllByRecursion Free (lines bs) × ((ended (lines bs) ≡ bs) ⊎ (ended (lines bs) ≡ bs ++ 10 ∷ [])) → AllByRecursion Free (cond t ([] ∷ lines bs) (onto b (lines bs))) × ((ended (cond t ([] ∷ lines bs) (onto b (lines bs))) ≡ b ∷ bs) ⊎ (ended (cond t ([] ∷ lines bs) (onto b (lines bs))) ≡ (b ∷ bs) ++ 10 ∷ []))
     go true is h =
         let lf : 10 ≡ b = sym (eqb-true b 10 is) in
         ((tt, h.0), ⊎_elim (λ e. inl (λ i. lf i ∷ e i)) (λ e. inr (λ i. lf i ∷ e i)) h.1)

@@ -2,7 +2,7 @@
 use Rattle.std.specs.Prelude.{◌≡◌, ℕ, ◌<◌, ◌≤◌, ◌⊎◌, List, [], ◌∷◌, length, take, slice_index}
 use Rattle.std.specs.Str.Parse.{AllDigits, digits_value}
 use Rattle.std.specs.Char.{digit_value}
-use Rattle.std.specs.List.{AllByRecursion as All}
+use Rattle.std.specs.List.{AllByRecursion}
 
 -- a space or a tab
 abbrev pub Blank : ℕ → Type 0
@@ -22,7 +22,7 @@ Stops (b ∷ bs) = Blank b
 -- the first n bytes are the longest front of blanks
 pub record Indent (bs : List ℕ) (n : ℕ) : Type 0 where
   pub within : n ≤ length bs
-  pub blanks : All Blank (take n bs)
+  pub blanks : AllByRecursion Blank (take n bs)
   pub stops : n < length bs → Blank (slice_index bs n) → ⊥
 
 -- the first n bytes are the longest front of at most `most` digits, and write v

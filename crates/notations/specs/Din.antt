@@ -1,7 +1,7 @@
 -- din: blanks if any, a label of one byte, one or more blanks, the address, then the end, or a blank and anything. An access has one byte.
 use Rattle.std.specs.Prelude.{◌≡◌, ℕ, ◌+◌, ◌<◌, List, ◌∷◌, ◌++◌, length, Some, None, Option}
 use Rattle.std.specs.Str.Parse.{digits_value}
-use Rattle.std.specs.List.{AllByRecursion as All}
+use Rattle.std.specs.List.{AllByRecursion}
 use Rattle.notations.specs.Bytes.{Blank, Figures, Stops}
 use Rattle.notations.specs.Grammar.{Reading, Grammar}
 use Rattle.notations.specs.declared.line.Kind.{Kind}
@@ -20,9 +20,9 @@ pub record DinRecord (line : List ℕ) (t : Reading) : Type 0 where
   pub gap : List ℕ
   pub rest : List ℕ
   pub shape : line ≡ indent ++ mark ∷ (gap ++ (t.digits ++ rest))
-  pub indented : All Blank indent
+  pub indented : AllByRecursion Blank indent
   pub labelled : label t.kind ≡ Some mark
-  pub apart : All Blank gap
+  pub apart : AllByRecursion Blank gap
   pub some : 0 < length gap
   pub figures : Figures 16 16 t.digits
   pub stops : Stops rest
@@ -31,4 +31,4 @@ pub record DinRecord (line : List ℕ) (t : Reading) : Type 0 where
   pub column : t.column ≡ length indent + length gap + 2
 
 unfoldable pub din : Grammar
-din = record { skips = All Blank; records = DinRecord; lead = All Blank }
+din = record { skips = AllByRecursion Blank; records = DinRecord; lead = AllByRecursion Blank }

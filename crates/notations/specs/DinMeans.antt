@@ -6,7 +6,7 @@ use Rattle.std.proofs.lemmas.List.{take_all, length-take-le, length_push, drop_a
 use Rattle.std.proofs.lemmas.Bool.{cases_lt}
 use Rattle.std.specs.Str.Parse.{AllDigits, digits_value}
 use Rattle.std.specs.Char.{digit_value}
-use Rattle.std.specs.List.{between, AllByRecursion as All}
+use Rattle.std.specs.List.{between, AllByRecursion}
 use Rattle.geometry.specs.declared.refusal.Refusal.TheVariants.{UnknownKind, Misfit}
 use Rattle.notations.specs.Bytes.{Blank, Figures, Stops, Indent, Longest}
 use Rattle.notations.specs.Din.{label, DinRecord, din}
@@ -48,11 +48,11 @@ is_label Store m e = inr (inl (cc))
 is_label Fetch m e = inr (inr (cc))
 is_label Modify m e = let z : ◌≡◌ {A = ℕ} 0 1 = cc in absurd (omega arith)
 
-gap_in : (gap r : List ℕ) → All Blank gap → 0 < length gap → AtDigits r → AtGap (gap ++ r)
+gap_in : (gap r : List ℕ) → AllByRecursion Blank gap → 0 < length gap → AtDigits r → AtGap (gap ++ r)
 gap_in [] r h some k = absurd (omega arith)
 gap_in (g ∷ gap) r h some k = (h.0, blanks_in AtDigits gap r h.1 k)
 
-gap_out : (gap r : List ℕ) → All Blank gap → 0 < length gap → AtGap (gap ++ r) → Blanks AtDigits r
+gap_out : (gap r : List ℕ) → AllByRecursion Blank gap → 0 < length gap → AtGap (gap ++ r) → Blanks AtDigits r
 gap_out [] r h some k = absurd (omega arith)
 gap_out (g ∷ gap) r h some k = blanks_out AtDigits digits_apart gap r h.1 k.1
 
@@ -62,13 +62,13 @@ road line t d =
     (blanks_in AtLabel d.indent _ d.indented (is_label t.kind d.mark d.labelled, gap_in d.gap _ d.apart d.some (some_in 16 15 Stops t.digits d.rest d.figures.digits d.figures.some d.figures.few d.stops)))
 
 -- how a record goes on after its indent, its label, its gap, its digits
-after_indent : (indent : List ℕ) → All Blank indent → (rest : List ℕ) (t : Reading) → DinRecord (indent ++ rest) t → Blanks AtLabel rest
+after_indent : (indent : List ℕ) → AllByRecursion Blank indent → (rest : List ℕ) (t : Reading) → DinRecord (indent ++ rest) t → Blanks AtLabel rest
 after_indent indent h rest t d = blanks_out AtLabel label_apart indent rest h (road (indent ++ rest) t d)
 
-after_label : (indent : List ℕ) (mark : ℕ) → All Blank indent → IsLabel mark → (rest : List ℕ) (t : Reading) → DinRecord (indent ++ mark ∷ rest) t → AtGap rest
+after_label : (indent : List ℕ) (mark : ℕ) → AllByRecursion Blank indent → IsLabel mark → (rest : List ℕ) (t : Reading) → DinRecord (indent ++ mark ∷ rest) t → AtGap rest
 after_label indent mark h l rest t d = (blanks_done AtLabel mark rest (label_solid mark l) (after_indent indent h (mark ∷ rest) t d)).1
 
-after_gap : (indent : List ℕ) (mark : ℕ) (gap : List ℕ) → All Blank indent → IsLabel mark → All Blank gap → 0 < length gap → (rest : List ℕ) (t : Reading) → DinRecord (indent ++ mark ∷ (gap ++ rest)) t → Blanks AtDigits rest
+after_gap : (indent : List ℕ) (mark : ℕ) (gap : List ℕ) → AllByRecursion Blank indent → IsLabel mark → AllByRecursion Blank gap → 0 < length gap → (rest : List ℕ) (t : Reading) → DinRecord (indent ++ mark ∷ (gap ++ rest)) t → Blanks AtDigits rest
 after_gap indent mark gap h l k some rest t d = gap_out gap rest k some (after_label indent mark h l (gap ++ rest) t d)
 
 ends_digits : (ds rest : List ℕ) → AllDigits 16 ds → 0 < length ds → Ends Blank (ds ++ rest)
@@ -79,7 +79,7 @@ digits_first : (ds rest : List ℕ) → AllDigits 16 ds → 0 < length ds → Bl
 digits_first [] rest h some k = absurd (omega arith)
 digits_first (d ∷ ds) rest h some k = blanks_done AtDigits d (ds ++ rest) (digit_solid 16 d (omega arith) h.0) k
 
-after_digits : (indent : List ℕ) (mark : ℕ) (gap ds : List ℕ) (m : ℕ) → All Blank indent → IsLabel mark → All Blank gap → 0 < length gap → AllDigits 16 ds → 0 < length ds → 16 ≡ length ds + m → (rest : List ℕ) (t : Reading) → DinRecord (indent ++ mark ∷ (gap ++ (ds ++ rest))) t → More 16 m Stops rest
+after_digits : (indent : List ℕ) (mark : ℕ) (gap ds : List ℕ) (m : ℕ) → AllByRecursion Blank indent → IsLabel mark → AllByRecursion Blank gap → 0 < length gap → AllDigits 16 ds → 0 < length ds → 16 ≡ length ds + m → (rest : List ℕ) (t : Reading) → DinRecord (indent ++ mark ∷ (gap ++ (ds ++ rest))) t → More 16 m Stops rest
 after_digits indent mark gap ds m h l k some digits any few rest t d =
     some_out 16 15 m Stops stops_apart ds rest digits any (omega arith) (digits_first ds rest digits any (after_gap indent mark gap h l k some (ds ++ rest) t d))
 
@@ -92,7 +92,7 @@ unfolding kind_of
 label_of m l = ⊎_elim (λ e. subst (λ n. label (kind_of n) ≡ Just n) (sym e) refl) (⊎_elim (λ e. subst (λ n. label (kind_of n) ≡ Just n) (sym e) refl) (λ e. subst (λ n. label (kind_of n) ≡ Just n) (sym e) refl)) l
 
 -- bytes that a record begins with
-begins : (p more indent : List ℕ) (mark : ℕ) (gap ds : List ℕ) → p ++ more ≡ indent ++ mark ∷ (gap ++ (ds ++ [])) → All Blank indent → IsLabel mark → All Blank gap → 0 < length gap → Figures 16 16 ds → Begins din p
+begins : (p more indent : List ℕ) (mark : ℕ) (gap ds : List ℕ) → p ++ more ≡ indent ++ mark ∷ (gap ++ (ds ++ [])) → AllByRecursion Blank indent → IsLabel mark → AllByRecursion Blank gap → 0 < length gap → Figures 16 16 ds → Begins din p
 unfolding din
 begins p more indent mark gap ds shape h l k some figures =
     let t : Reading = record { kind = kind_of mark; address = digits_value 16 ds; size = 1; digits = ds; column = length indent + length gap + 2 } in
@@ -102,11 +102,11 @@ begins p more indent mark gap ds shape h l k some figures =
 zero_digit : Figures 16 16 (48 ∷ [])
 zero_digit = record { some = omega arith; few = omega arith; digits = (omega arith, tt) }
 
-one_blank : All Blank (32 ∷ [])
+one_blank : AllByRecursion Blank (32 ∷ [])
 one_blank = (inl refl, tt)
 
 -- the refusals
-pub refuse_label : (indent : List ℕ) (b : ℕ) (bs : List ℕ) → All Blank indent → (Blank b → ⊥) → (IsLabel b → ⊥) → Misfits din (indent ++ b ∷ bs) (length indent)
+pub refuse_label : (indent : List ℕ) (b : ℕ) (bs : List ℕ) → AllByRecursion Blank indent → (Blank b → ⊥) → (IsLabel b → ⊥) → Misfits din (indent ++ b ∷ bs) (length indent)
 unfolding din
 refuse_label indent b bs h solid other =
     misfits din (Blanks AtLabel) indent (b ∷ bs) (begins indent (48 ∷ (32 ∷ (48 ∷ []))) indent 48 (32 ∷ []) (48 ∷ []) refl h (inl refl) one_blank (omega arith) zero_digit) (after_indent indent h)
@@ -116,7 +116,7 @@ dies_gap : (r : List ℕ) → (0 < length r → Blank (slice_index r 0) → ⊥)
 dies_gap [] solid = λ k. k
 dies_gap (b ∷ bs) solid = λ rest k. solid (omega arith) k.0
 
-pub refuse_gap : (indent : List ℕ) (mark : ℕ) (r : List ℕ) → All Blank indent → IsLabel mark → (0 < length r → Blank (slice_index r 0) → ⊥) → Misfits din ((indent ++ mark ∷ []) ++ r) (length (indent ++ mark ∷ []))
+pub refuse_gap : (indent : List ℕ) (mark : ℕ) (r : List ℕ) → AllByRecursion Blank indent → IsLabel mark → (0 < length r → Blank (slice_index r 0) → ⊥) → Misfits din ((indent ++ mark ∷ []) ++ r) (length (indent ++ mark ∷ []))
 unfolding din
 refuse_gap indent mark r h l solid =
     misfits din AtGap (indent ++ mark ∷ []) r (begins (indent ++ mark ∷ []) (32 ∷ (48 ∷ [])) indent mark (32 ∷ []) (48 ∷ []) (append_assoc indent (mark ∷ []) (32 ∷ (48 ∷ []))) h l one_blank (omega arith) zero_digit)
@@ -126,13 +126,13 @@ dies_digits : (r : List ℕ) → (0 < length r → Blank (slice_index r 0) → �
 dies_digits [] solid stops = λ k. k
 dies_digits (b ∷ bs) solid stops = λ rest k. let low = (blanks_done AtDigits b rest (solid (omega arith)) k).0 in let high = stops (omega arith) in omega arith
 
-pub refuse_digits : (indent : List ℕ) (mark : ℕ) (gap r : List ℕ) → All Blank indent → IsLabel mark → All Blank gap → 0 < length gap → (0 < length r → Blank (slice_index r 0) → ⊥) → (0 < length r → 16 ≤ digit_value (slice_index r 0)) → Misfits din ((indent ++ mark ∷ gap) ++ r) (length (indent ++ mark ∷ gap))
+pub refuse_digits : (indent : List ℕ) (mark : ℕ) (gap r : List ℕ) → AllByRecursion Blank indent → IsLabel mark → AllByRecursion Blank gap → 0 < length gap → (0 < length r → Blank (slice_index r 0) → ⊥) → (0 < length r → 16 ≤ digit_value (slice_index r 0)) → Misfits din ((indent ++ mark ∷ gap) ++ r) (length (indent ++ mark ∷ gap))
 unfolding din
 refuse_digits indent mark gap r h l k some solid stops =
     misfits din (Blanks AtDigits) (indent ++ mark ∷ gap) r (begins (indent ++ mark ∷ gap) (48 ∷ []) indent mark gap (48 ∷ []) (append_assoc indent (mark ∷ gap) (48 ∷ [])) h l k some zero_digit)
     (λ rest t d. after_gap indent mark gap h l k some rest t (subst (λ x. DinRecord x t) (append_assoc indent (mark ∷ gap) rest) d)) (dies_digits r solid stops)
 
-pub refuse_end : (indent : List ℕ) (mark : ℕ) (gap ds : List ℕ) (b : ℕ) (bs : List ℕ) → All Blank indent → IsLabel mark → All Blank gap → 0 < length gap → Figures 16 16 ds → (Blank b → ⊥) → (length ds < 16 → 16 ≤ digit_value b) → Misfits din ((indent ++ mark ∷ (gap ++ ds)) ++ b ∷ bs) (length (indent ++ mark ∷ (gap ++ ds)))
+pub refuse_end : (indent : List ℕ) (mark : ℕ) (gap ds : List ℕ) (b : ℕ) (bs : List ℕ) → AllByRecursion Blank indent → IsLabel mark → AllByRecursion Blank gap → 0 < length gap → Figures 16 16 ds → (Blank b → ⊥) → (length ds < 16 → 16 ≤ digit_value b) → Misfits din ((indent ++ mark ∷ (gap ++ ds)) ++ b ∷ bs) (length (indent ++ mark ∷ (gap ++ ds)))
 unfolding din
 refuse_end indent mark gap ds b bs h l k some figures solid stops =
     let m = 16 - length ds in
@@ -189,7 +189,7 @@ pub record Scanned (line after rest : List ℕ) (i g n v : ℕ) : Type 0 where
 
 pub blank_line : (line : List ℕ) (i : ℕ) → Indent line i → i ≡ length line → din.skips line
 unfolding din
-blank_line line i h e = subst (All Blank) (take_all i line (omega arith)) h.blanks
+blank_line line i h e = subst (AllByRecursion Blank) (take_all i line (omega arith)) h.blanks
 
 pub solid_line : (line : List ℕ) (i : ℕ) → Indent line i → i < length line → din.skips line → ⊥
 unfolding din

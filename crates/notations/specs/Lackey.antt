@@ -1,7 +1,7 @@
 -- Lackey: `I` and two spaces, or a space, one of L, S, M, and a space; then the address, a comma, a size of 1 to 3 decimal digits, the end. A line that starts with `==` is skipped.
 use Rattle.std.specs.Prelude.{◌≡◌, ℕ, ◌⊎◌, List, [], ◌∷◌, ◌++◌, ◌≢◌}
 use Rattle.std.specs.Str.Parse.{digits_value}
-use Rattle.std.specs.List.{AllByRecursion as All}
+use Rattle.std.specs.List.{AllByRecursion}
 use Rattle.notations.specs.Bytes.{Blank, Figures}
 use Rattle.notations.specs.Grammar.{Reading, Grammar}
 use Rattle.notations.specs.declared.line.Kind.{Kind}
@@ -36,7 +36,7 @@ abbrev pub Commented : List ℕ → Type 0
 Commented line = (rest : List ℕ) × (line ≡ 61 ∷ 61 ∷ rest)
 
 abbrev pub Skips : List ℕ → Type 0
-Skips line = All Blank line ⊎ Commented line
+Skips line = AllByRecursion Blank line ⊎ Commented line
 
 -- the kind stands first, or after a space
 abbrev pub Lead : List ℕ → Type 0

@@ -6,7 +6,7 @@ use Rattle.std.proofs.lemmas.List.{take_all, take_rest, length-take-le, length_p
 use Rattle.std.proofs.lemmas.Bool.{cases_lt}
 use Rattle.std.specs.Str.Parse.{AllDigits, digits_value}
 use Rattle.std.specs.Char.{digit_value}
-use Rattle.std.specs.List.{between, AllByRecursion as All}
+use Rattle.std.specs.List.{between, AllByRecursion}
 use Rattle.geometry.specs.Lines.{Sized, Within}
 use Rattle.geometry.specs.declared.refusal.Refusal.TheVariants.{UnknownKind, Misfit, Size, PastMemory}
 use Rattle.notations.specs.Bytes.{Blank, Figures, Indent, Longest}
@@ -348,7 +348,7 @@ fault_kind line b bs e other =
     (misfits lackey AtLetter (32 ∷ []) (b ∷ bs) (begins (32 ∷ []) (76 ∷ (32 ∷ (48 ∷ (44 ∷ (48 ∷ []))))) Load (48 ∷ []) (48 ∷ []) refl zero_address zero_size) after_space (λ rest k. other k.0))
     (inr refl)
 
-pub fault_first : (line : List ℕ) → (All Blank line → ⊥) → (0 < length line → slice_index line 0 ≢ 73) → (1 < length line → slice_index line 0 ≢ 32) → Refuses lackey line UnknownKind 1
+pub fault_first : (line : List ℕ) → (AllByRecursion Blank line → ⊥) → (0 < length line → slice_index line 0 ≢ 73) → (1 < length line → slice_index line 0 ≢ 32) → Refuses lackey line UnknownKind 1
 unfolding lackey
 fault_first [] solid not-I not-space = absurd (solid tt)
 fault_first (b ∷ bs) solid not-I not-space =
@@ -356,7 +356,7 @@ fault_first (b ∷ bs) solid not-I not-space =
     (misfits lackey AtKind [] (b ∷ bs) (begins [] (73 ∷ (32 ∷ (32 ∷ (48 ∷ (44 ∷ (48 ∷ [])))))) Fetch (48 ∷ []) (48 ∷ []) refl zero_address zero_size) at_kind (λ rest k. ⊎_elim (λ w. not-I (omega arith) w.0) (λ w. not-space (longer bs solid w.0) w.0) k))
     (inl refl)
   where
-    longer : (bs : List ℕ) → (All Blank (b ∷ bs) → ⊥) → b ≡ 32 → 1 < length (b ∷ bs)
+    longer : (bs : List ℕ) → (AllByRecursion Blank (b ∷ bs) → ⊥) → b ≡ 32 → 1 < length (b ∷ bs)
     longer [] solid e = absurd (solid (inl e, tt))
     longer (x ∷ bs) solid e = omega arith
 
@@ -397,15 +397,15 @@ two_equals line long a b = (drop 2 line, two line long ∙ (λ i. a i ∷ (b i �
 -- a blank line is skipped; one that is neither blank nor a comment is not
 pub blank_skips : (line : List ℕ) (n : ℕ) → Indent line n → n ≡ length line → lackey.skips line
 unfolding lackey
-blank_skips line n h e = inl (subst (All Blank) (take_all n line (omega arith)) h.blanks)
+blank_skips line n h e = inl (subst (AllByRecursion Blank) (take_all n line (omega arith)) h.blanks)
 
 pub comment_skips : (line : List ℕ) → Commented line → lackey.skips line
 unfolding lackey
 comment_skips line h = inr h
 
-pub solid_line : (line : List ℕ) (n : ℕ) → Indent line n → (n ≢ length line) → All Blank line → ⊥
+pub solid_line : (line : List ℕ) (n : ℕ) → Indent line n → (n ≢ length line) → AllByRecursion Blank line → ⊥
 solid_line line n h short blank = let within = h.within in let low : n < length line = omega arith in h.stops low (All-get_or Blank line n 0 low blank)
 
-pub told_line : (line : List ℕ) → (All Blank line → ⊥) → (Commented line → ⊥) → lackey.skips line → ⊥
+pub told_line : (line : List ℕ) → (AllByRecursion Blank line → ⊥) → (Commented line → ⊥) → lackey.skips line → ⊥
 unfolding lackey
 told_line line solid plain h = ⊎_elim solid plain h

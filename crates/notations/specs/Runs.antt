@@ -3,7 +3,7 @@ use Rattle.std.specs.Prelude.{◌≡◌, ℕ, zero, suc, ◌+◌, ◌<◌, ◌�
 use Rattle.std.proofs.Common.{sym, ap, subst, ◌∙◌, inl, inr, ⊎_elim, arith}
 use Rattle.std.specs.Str.Parse.{AllDigits}
 use Rattle.std.specs.Char.{digit_value}
-use Rattle.std.specs.List.{AllByRecursion as All}
+use Rattle.std.specs.List.{AllByRecursion}
 use Rattle.notations.specs.Bytes.{Blank}
 
 -- blanks, then K
@@ -26,12 +26,12 @@ Some radix n K (b ∷ bs) = (digit_value b < radix) × More radix n K bs
 abbrev pub Apart : (ℕ → Type 0) → (List ℕ → Type 0) → Type 0
 Apart P K = (b : ℕ) (bs : List ℕ) → P b → K (b ∷ bs) → ⊥
 
-pub blanks_in : (K : List ℕ → Type 0) (xs r : List ℕ) → All Blank xs → K r → Blanks K (xs ++ r)
+pub blanks_in : (K : List ℕ → Type 0) (xs r : List ℕ) → AllByRecursion Blank xs → K r → Blanks K (xs ++ r)
 blanks_in K [] [] h k = k
 blanks_in K [] (b ∷ bs) h k = inr k
 blanks_in K (x ∷ xs) r h k = inl (h.0, blanks_in K xs r h.1 k)
 
-pub blanks_out : (K : List ℕ → Type 0) → Apart Blank K → (xs r : List ℕ) → All Blank xs → Blanks K (xs ++ r) → Blanks K r
+pub blanks_out : (K : List ℕ → Type 0) → Apart Blank K → (xs r : List ℕ) → AllByRecursion Blank xs → Blanks K (xs ++ r) → Blanks K r
 blanks_out K apart [] r h k = k
 blanks_out K apart (x ∷ xs) r h k = ⊎_elim (λ w. blanks_out K apart xs r h.1 w.1) (λ w. absurd (apart x (xs ++ r) h.0 w)) k
 
@@ -80,7 +80,7 @@ tails : (x y : ℕ) (xs ys : List ℕ) → x ∷ xs ≡ y ∷ ys → xs ≡ ys
 tails x y xs ys e = cc
 
 -- so two runs that make up the same bytes are the same
-pub same_run : (P : ℕ → Type 0) (xs ys r s : List ℕ) → All P xs → All P ys → Ends P r → Ends P s → xs ++ r ≡ ys ++ s → (xs ≡ ys) × (r ≡ s)
+pub same_run : (P : ℕ → Type 0) (xs ys r s : List ℕ) → AllByRecursion P xs → AllByRecursion P ys → Ends P r → Ends P s → xs ++ r ≡ ys ++ s → (xs ≡ ys) × (r ≡ s)
 same_run P [] [] r s h k e f same = (refl, same)
 same_run P [] (y ∷ ys) [] s h k e f same = let z : ◌≡◌ {A = ℕ} 0 1 = cc in absurd (omega arith)
 same_run P [] (y ∷ ys) (b ∷ r) s h k e f same = absurd (e (subst P (sym (heads b y r (ys ++ s) same)) k.0))
@@ -90,11 +90,11 @@ same_run P (x ∷ xs) (y ∷ ys) r s h k e f same =
     let more = same_run P xs ys r s h.1 k.1 e f (tails x y (xs ++ r) (ys ++ s) same) in
     (λ i. heads x y (xs ++ r) (ys ++ s) same i ∷ more.0 i, more.1)
 
-pub digits_all : (radix : ℕ) (ds : List ℕ) → AllDigits radix ds → All (λ b. digit_value b < radix) ds
+pub digits_all : (radix : ℕ) (ds : List ℕ) → AllDigits radix ds → AllByRecursion (λ b. digit_value b < radix) ds
 digits_all radix [] h = tt
 digits_all radix (d ∷ ds) h = (h.0, digits_all radix ds h.1)
 
-pub all_here : (P : ℕ → Type 0) (xs : List ℕ) (y : ℕ) (ys : List ℕ) → All P (xs ++ y ∷ ys) → P y
+pub all_here : (P : ℕ → Type 0) (xs : List ℕ) (y : ℕ) (ys : List ℕ) → AllByRecursion P (xs ++ y ∷ ys) → P y
 all_here P [] y ys h = h.0
 all_here P (x ∷ xs) y ys h = all_here P xs y ys h.1
 

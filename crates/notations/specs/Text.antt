@@ -1,6 +1,6 @@
 -- The lines of a text: each ends at an LF, which the last may lack.
 use Rattle.std.specs.Prelude.{◌≡◌, ℕ, ◌<◌, ◌≤◌, cond, ◌⊎◌, List, [], ◌∷◌, ◌++◌, length, take, ◌==◌, ◌≢◌, slice_index}
-use Rattle.std.specs.List.{AllByRecursion as All}
+use Rattle.std.specs.List.{AllByRecursion}
 
 -- b at the front of the first line
 abbrev pub onto : ℕ → List (List ℕ) → List (List ℕ)
@@ -18,10 +18,10 @@ ended (l ∷ ls) = l ++ 10 ∷ ended ls
 
 -- No line holds an LF, and the lines with their LFs are the text, or the text and the LF that its last line lacks.
 abbrev pub Rejoins : Type 0
-Rejoins = (text : List ℕ) → All (All (λ b. b ≢ 10)) (lines text) × ((ended (lines text) ≡ text) ⊎ (ended (lines text) ≡ text ++ 10 ∷ []))
+Rejoins = (text : List ℕ) → AllByRecursion (AllByRecursion (λ b. b ≢ 10)) (lines text) × ((ended (lines text) ≡ text) ⊎ (ended (lines text) ≡ text ++ 10 ∷ []))
 
 -- the first n bytes hold no `stop`, and one comes next, or the end
 pub record LongestWithout (stop : ℕ) (bs : List ℕ) (n : ℕ) : Type 0 where
   pub within : n ≤ length bs
-  pub free : All (λ b. b ≢ stop) (take n bs)
+  pub free : AllByRecursion (λ b. b ≢ stop) (take n bs)
   pub stops : n < length bs → slice_index bs n ≡ stop

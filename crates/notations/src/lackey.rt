@@ -2,7 +2,7 @@ ghost use Rattle.std.specs.Prelude.{◌≡◌, ℕ, List, ◌∷◌, ◌++◌, D
 ghost use Rattle.notations.specs.Bytes.{Blank};
 ghost use Rattle.notations.specs.Grammar.{Means, Refuses, said};
 ghost use Rattle.notations.specs.Lackey.{lackey, prefix, Unopened, Commented, Letter};
-ghost use Rattle.std.specs.List.{AllByRecursion as All};
+ghost use Rattle.std.specs.List.{AllByRecursion};
 ghost use Rattle.notations.specs.LackeyMeans.{lackey_one};
 
 use crate::fault::LineFault;
@@ -142,7 +142,7 @@ fn is_comment(line: &[u8]) -> bool
 }
 
 fn opening_fault(line: &[u8]) -> LineFault
-    requires { Unopened line.now × (All Blank line.now → ⊥) }
+    requires { Unopened line.now × (AllByRecursion Blank line.now → ⊥) }
     ensures { Refuses lackey line.now result.cause result.column }
 {
     match line {

@@ -1,6 +1,6 @@
 -- The peak and the load of a list of gaps, and gaps that stay low.
 use Rattle.std.proofs.Common.{◌≡◌, ℕ, zero, suc, ◌+◌, ◌-◌, ◌<◌, ◌≤◌, max, Bool, true, ◌&&◌, ltb, ◌⊎◌, List, [], ◌∷◌, length, drop, Some, None, sum, Option, sym, refl, ap, ◌∙◌, subst, ap₂, ⊎_elim, arith}
-use Rattle.std.specs.List.{between, ContainsAt as Has, AllByRecursion as All}
+use Rattle.std.specs.List.{between, ContainsAt as Has, AllByRecursion}
 use Rattle.std.proofs.ByRecursion.{All-weaker}
 use Rattle.std.proofs.lemmas.List.{take_all, length-drop}
 use Rattle.std.proofs.lemmas.List.Sums.{sum_by-cons}
@@ -24,7 +24,7 @@ has_later : (g m : ℕ) (gs : List ℕ) → Has gs m → Has (g ∷ gs) m
 has_later g m gs h = (suc h.0, omega (arith, h.1), h.2)
 
 highest_step : (g : ℕ) (gs : List ℕ) (o : Option ℕ) → Highest gs o → Highest (g ∷ gs) (higher (Some g) o)
-highest_step g gs None e = ((0, omega arith, λ d. refl), (omega arith, subst (All (λ n. n ≤ g)) (sym e) tt))
+highest_step g gs None e = ((0, omega arith, λ d. refl), (omega arith, subst (AllByRecursion (λ n. n ≤ g)) (sym e) tt))
 highest_step g gs (Some m) h = ⊎_elim
     (λ (l : g < m). let e : m ≡ max g m = omega arith in subst (λ n. Highest (g ∷ gs) (Some n)) e (has_later g m gs h.0, (omega arith, h.1)))
     (λ (l : m ≤ g). let e : g ≡ max g m = omega arith in subst (λ n. Highest (g ∷ gs) (Some n)) e ((0, omega arith, λ d. refl), (omega arith, All-weaker (λ n. n ≤ m) (λ n. n ≤ g) (λ n k. omega arith) gs h.1)))

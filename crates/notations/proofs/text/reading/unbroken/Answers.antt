@@ -1,5 +1,5 @@
 use Rattle.std.proofs.Common.{◌≡◌, ℕ, length, take, subst, arith}
-use Rattle.std.specs.List.{AllByRecursion as All}
+use Rattle.std.specs.List.{AllByRecursion}
 use Rattle.std.proofs.ByRecursion.{All-more}
 use Rattle.notations.proofs.text.reading.unbroken.Goals as goal
 
@@ -9,4 +9,4 @@ loop-i-preserved c = All-more (λ b. b ≡ c.args.stop → ⊥) _ c.loop-i.i 0 c
 pub returns : goal.returns
 returns c =
     let end : c.loop-i.i ≡ length c.args.bytes.now = omega arith in
-    record { within = omega arith; free = subst (λ n. All (λ b. b ≡ c.args.stop → ⊥) (take n c.args.bytes.now)) end c.loop-i.invariant; stops = λ low. absurd (omega arith) }
+    record { within = omega arith; free = subst (λ n. AllByRecursion (λ b. b ≡ c.args.stop → ⊥) (take n c.args.bytes.now)) end c.loop-i.invariant; stops = λ low. absurd (omega arith) }
