@@ -1,10 +1,9 @@
 -- The lines of an access are those in which a byte of it lies, ascending.
-use Rattle.std.proofs.Common.{◌≡◌, ℕ, zero, suc, ◌+◌, ◌-◌, ◌*◌, ◌/◌, ◌^◌, ◌<◌, ◌≤◌, List, [], ◌∷◌, length, get_or, sym, refl, ap, ◌∙◌, subst, ⊎_elim, le-div_iff_mul-le, mul-div_cancel, arith, pow_pos}
+use Rattle.std.proofs.Common.{◌≡◌, ℕ, zero, suc, ◌+◌, ◌-◌, ◌*◌, ◌/◌, ◌^◌, ◌<◌, ◌≤◌, length, get_or, sym, refl, ap, ◌∙◌, subst, ⊎_elim, le-div_iff_mul-le, mul-div_cancel, arith, pow_pos}
 use lib.Pow.{shr_mono}
-use Rattle.std.specs.List.{ContainsAt as Has, AllByRecursion}
-use Rattle.std.proofs.ByRecursion.{All-weaker}
+use Rattle.std.specs.List.{AllByRecursion}
 use Rattle.std.proofs.lemmas.Bool.{cases_lt}
-use Rattle.geometry.specs.Lines.{upward, lines, Touched, Ascending, Covers}
+use Rattle.geometry.specs.Lines.{upward, Touched, Ascending, Covers}
 
 pub length_upward : (a n : ℕ) → length (upward a n) ≡ n
 length_upward a zero = refl

@@ -1,11 +1,11 @@
 -- The schedule by index: a line is held exactly between a touch and its next, where that next one is a hit.
 use Rattle.std.proofs.Common.{◌≡◌, ℕ, suc, ◌<◌, ◌≤◌, Bool, true, false, cond, ◌||◌, eqb, leb, ◌⊎◌, ◌↔◌, List, [], ◌∷◌, ◌++◌, length, get_or, drop, sym, refl, ap, ◌∙◌, subst, inl, inr, arith, length-append}
 use Rattle.std.proofs.lemmas.Bool.{cases_order, eqb-true, eqb-false, eq-eqb, le-leb, lt-leb, or_cases, or_left, or_right, leb-true, leb-false, both_ways, false≢true}
-use Rattle.histories.specs.Rule.{held, fits, occupancies, hit, LastTouch}
+use Rattle.histories.specs.Rule.{held, occupancies, hit, LastTouch}
 use Rattle.histories.specs.Histories.{Legal}
 use Rattle.histories.specs.Schedule.{put, schedule, Kept, KeptForHits}
 use Rattle.histories.proofs.Lower.{sound}
-use Rattle.histories.proofs.Index.{at, at_newest, at_older, Where, where_is, last_newest, last_older, last_touch}
+use Rattle.histories.proofs.Index.{at, Where, where_is, last_newest, last_older, last_touch}
 
 length_put : (x : ℕ) (ts : List ℕ) (cs : List (List ℕ)) → length (put x ts cs) ≡ length cs
 unfolding put

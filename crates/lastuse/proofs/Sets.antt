@@ -1,5 +1,5 @@
 -- A turn noted in the chains of one of several sets.
-use Rattle.std.proofs.Common.{◌≡◌, ℕ, ◌+◌, ◌*◌, ◌<◌, ◌≤◌, eqb, List, length, get_or, set, Some, None, sym, refl, ap, ◌∙◌, arith}
+use Rattle.std.proofs.Common.{◌≡◌, ℕ, ◌+◌, ◌*◌, ◌<◌, ◌≤◌, List, length, get_or, set, Some, None, sym, refl, ap, ◌∙◌, arith}
 use Rattle.std.proofs.lemmas.Bool.{eq-eqb, ne_eqb}
 use Rattle.std.proofs.lemmas.List.{length-set}
 use Rattle.parts.specs.Equal.{part}
@@ -39,24 +39,24 @@ module _ (chains room sets : ℕ) (hs : List ℕ) (es : List Entry) (j x turn us
   pub map_new : (s : ℕ) → used < room → Absent (part room j es) used x → s ≡ chain_of x chains → s < chains
       → Mapped chains room sets hs (set hs (j * chains + s) (used + 1)) es
       (set es (j * room + used) (record { line = record { 0 = x }; last = turn; next = get_or hs (j * chains + s) 0 })) j x turn used None (used + 1)
-  map_new s u n s_is s-in =
+  map_new s u n s_is s_in =
       let e : Entry = record { line = record { 0 = x }; last = turn; next = get_or hs (j * chains + s) 0 } in
-      let here = get_d_part chains j s hs 0 s-in in
+      let here = get_d_part chains j s hs 0 s_in in
       let many = length_part chains j hs wide in
       let long = length_part room j es deep in
       let p = push_at (part room j es) used x turn s (omega arith) (part chains j hs) (rw many s_is) (omega arith) c in
       let mine : part room j (set es (j * room + used) e) ≡ set (part room j es) used (record { line = record { 0 = x }; last = turn; next = get_or (part chains j hs) s 0 }) =
       part_set room j j used es e u ∙ rw (eq-eqb j j refl, here) in
       let mine_heads : part chains j (set hs (j * chains + s) (used + 1)) ≡ set (part chains j hs) s (used + 1) =
-      part_set chains j j s hs (used + 1) s-in ∙ rw (eq-eqb j j refl) in
+      part_set chains j j s hs (used + 1) s_in ∙ rw (eq-eqb j j refl) in
       record {
         chained = rw (mine, mine_heads) p.0;
         looks = rw mine p.1;
         before = sym (look_absent (part room j es) used x n);
         grows = omega arith;
-        heads = λ k d. part_set chains j k s hs (used + 1) s-in ∙ rw (ne_eqb k j d);
+        heads = λ k d. part_set chains j k s hs (used + 1) s_in ∙ rw (ne_eqb k j d);
         entries = λ k d. part_set room j k used es e u ∙ rw (ne_eqb k j d);
-        heads_past = past_set chains sets j s hs (used + 1) b s-in;
+        heads_past = past_set chains sets j s hs (used + 1) b s_in;
         entries_past = past_set room sets j used es e b u;
         wide = length-set hs (j * chains + s) (used + 1);
         deep = length-set es (j * room + used) e;

@@ -1,5 +1,5 @@
 -- What a walk along a chain knows, what the entries say of a line, and what a turn that is noted leaves.
-use Rattle.std.proofs.Common.{◌≡◌, ℕ, zero, suc, ◌+◌, ◌-◌, ◌*◌, ◌/◌, ◌%◌, ◌^◌, ◌<◌, ◌≤◌, Bool, true, false, cond, eqb, ◌≢◌, List, length, get_or, set, Some, None, Option, sym, refl, ap, ◌∙◌, ⊎_elim, add-one, arith}
+use Rattle.std.proofs.Common.{◌≡◌, ℕ, zero, suc, ◌+◌, ◌-◌, ◌*◌, ◌/◌, ◌%◌, ◌^◌, ◌<◌, ◌≤◌, cond, eqb, ◌≢◌, List, length, get_or, set, Some, None, Option, sym, refl, ap, ◌∙◌, ⊎_elim, add-one, arith}
 use mathlib.Core.Path.{fun_ext}
 use Rattle.std.proofs.lemmas.Bool.{cases_eq, eq-eqb, ne_eqb}
 use Rattle.std.proofs.lemmas.Bool.Decides.{nat_tests}
@@ -101,21 +101,21 @@ chained_set hs es fs n len s c = record {
 }
 
 -- one more entry, of line x in the chain s: it leads to what the head of s led to, and the head leads to it
-module _ (hs : List ℕ) (es fs : List Entry) (n x s : ℕ) (free : n < length es) (len : length fs ≡ length es) (s_is : s ≡ chain_of x (length hs)) (s-in : s < length hs)
+module _ (hs : List ℕ) (es fs : List Entry) (n x s : ℕ) (free : n < length es) (len : length fs ≡ length es) (s_is : s ≡ chain_of x (length hs)) (s_in : s < length hs)
     (o : (k : ℕ) → k ≢ n → at fs k ≡ at es k) (el : (at fs n).line.0 ≡ x) (en : (at fs n).next ≡ get_or hs s 0) (c : Chained hs es n) where
   kept_lines : (j k : ℕ) → j ≤ n → k < j → (at fs k).line.0 ≡ (at es k).line.0
   kept_lines j k a b = ap (λ e. e.line.0) (o k (omega arith))
 
   push_heads : (h : ℕ) → h < length hs → Leads fs (length hs) h (n + 1) (get_or (set hs s (n + 1)) h 0)
   push_heads h b = ⊎_elim
-      (λ (same : h ≡ s). rw (same, get_or-set_same hs s (n + 1) 0 s-in) (leads_here fs (length hs) s n (rw el (sym s_is))))
+      (λ (same : h ≡ s). rw (same, get_or-set_same hs s (n + 1) 0 s_in) (leads_here fs (length hs) s n (rw el (sym s_is))))
       (λ apart. rw (get_or-set_other hs s h (n + 1) 0 apart)
       (leads_wider fs (length hs) h n _ (rw el (λ e. apart (sym e ∙ sym s_is))) (leads_same es fs (length hs) h n _ (λ k. kept_lines n k (omega arith)) (c.heads h b))))
       (cases_eq h s)
 
   push_nexts : (k : ℕ) → k < n + 1 → Leads fs (length hs) (chain_of (at fs k).line.0 (length hs)) k (at fs k).next
   push_nexts k b = ⊎_elim
-      (λ (same : k ≡ n). rw (same, el, en, ← s_is) (leads_same es fs (length hs) s n _ (λ j. kept_lines n j (omega arith)) (c.heads s s-in)))
+      (λ (same : k ≡ n). rw (same, el, en, ← s_is) (leads_same es fs (length hs) s n _ (λ j. kept_lines n j (omega arith)) (c.heads s s_in)))
       (λ apart. rw (o k apart) (leads_same es fs (length hs) _ k _ (λ j. kept_lines k j (omega arith)) (c.nexts k (omega arith))))
       (cases_eq k n)
 
@@ -142,10 +142,10 @@ set_at es n x i t r l hs c =
 
 pub push_at : (es : List Entry) (n x t s : ℕ) → n < length es → (hs : List ℕ) → s ≡ chain_of x (length hs) → s < length hs → Chained hs es n
     → let fs = set es n (record { line = record { 0 = x }; last = t; next = get_or hs s 0 }) in Chained (set hs s (n + 1)) fs (n + 1) × (look fs (n + 1) ≡ update eqb (look es n) x (Some t))
-push_at es n x t s r hs s_is s-in c =
+push_at es n x t s r hs s_is s_in c =
     let e : Entry = record { line = record { 0 = x }; last = t; next = get_or hs s 0 } in
     let here : at (set es n e) n ≡ e = get_or-set_same es n e _ r in
     let other : (k : ℕ) → k ≢ n → at (set es n e) k ≡ at es k = λ k ne. get_or-set_other es n k e _ ne in (
-      chained_push hs es (set es n e) n x s r (length-set es n e) s_is s-in other (ap (λ f. f.line.0) here) (ap (λ f. f.next) here) c,
+      chained_push hs es (set es n e) n x s r (length-set es n e) s_is s_in other (ap (λ f. f.line.0) here) (ap (λ f. f.next) here) c,
       fun_ext (look_push es (set es n e) n x t other (ap (λ f. f.line.0) here) (ap (λ f. f.last) here)),
     )

@@ -1,7 +1,7 @@
 -- The first line, field after field.
-use Rattle.std.proofs.Common.{◌≡◌, ℕ, ◌+◌, ◌-◌, ◌<◌, ◌≤◌, ◌⊎◌, List, [], ◌∷◌, length, Ok, Err, Result, sym, refl, ap, ◌∙◌, subst, inl, inr, ⊎_elim, arith}
+use Rattle.std.proofs.Common.{◌≡◌, ℕ, ◌+◌, ◌-◌, ◌<◌, ◌≤◌, List, [], length, Ok, Err, Result, sym, refl, ap, ◌∙◌, subst, inl, inr, ⊎_elim, arith}
 use Rattle.notations.specs.declared.format.Format.{Format}
-use Rattle.listing.specs.Fields.{fields, from, Between, FormatWord, PolicyWord, Got, Next, End, Chosen, FirstLine}
+use Rattle.listing.specs.Fields.{from, Between, FormatWord, PolicyWord, Got, Next, End, Chosen, FirstLine}
 use Rattle.listing.specs.declared.first.PolicyName.{PolicyName}
 use Rattle.listing.specs.declared.first.Settings.{Settings}
 use Rattle.listing.specs.Listing.{first_of}

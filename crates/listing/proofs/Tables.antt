@@ -1,5 +1,5 @@
 -- The lines of the sets, one after another.
-use Rattle.std.proofs.Common.{◌≡◌, ℕ, zero, suc, ◌+◌, ◌-◌, ◌*◌, ◌^◌, ◌<◌, ◌≤◌, List, [], ◌∷◌, ◌++◌, length, get_or, take, Ok, Err, codes, decimal, sum, sym, refl, ap, ◌∙◌, subst, append_assoc, append-nil, arith}
+use Rattle.std.proofs.Common.{◌≡◌, ℕ, zero, suc, ◌+◌, ◌^◌, ◌<◌, ◌≤◌, List, [], ◌∷◌, ◌++◌, length, get_or, take, Ok, Err, codes, decimal, sum, sym, refl, ap, ◌∙◌, subst, append_assoc, append-nil, arith}
 use Rattle.std.specs.List.{flat_map}
 use Rattle.std.proofs.lemmas.List.{take_all, flat_map_more}
 use Rattle.geometry.specs.Lines.{upward}
@@ -7,7 +7,7 @@ use Rattle.notations.specs.Formats.{grammar_of}
 use Rattle.notations.specs.declared.fault.TextFault.{TextFault}
 use Rattle.listing.specs.Counting.{TraceCounted}
 use Rattle.listing.specs.Listing.{row_of, set_line, table, stop, Listed}
-use Rattle.listing.specs.Touches.{of_set, Counted}
+use Rattle.listing.specs.Touches.{Counted}
 use Rattle.listing.specs.Trace.{whole, ending, Traced}
 use Rattle.listing.specs.declared.first.Settings.{Settings}
 use Rattle.listing.proofs.Pieces.{three_pieces}

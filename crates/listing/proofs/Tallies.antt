@@ -1,12 +1,12 @@
 -- One more touch, and the lines of an access one after another.
-use Rattle.std.proofs.Common.{◌≡◌, ℕ, zero, suc, ◌+◌, ◌-◌, ◌*◌, ◌/◌, ◌%◌, ◌^◌, ◌<◌, ◌≤◌, Bool, true, false, cond, eqb, ◌≢◌, ◌⊎◌, List, [], ◌∷◌, ◌++◌, length, get_or, take, set, replicate, sum, sym, refl, ap, ◌∙◌, subst, inl, inr, ⊎_elim, append_assoc, append-nil, mod-lt, mul-le-mul_left, div-mul-le_self, arith, length-append, length-set, pow_pos, pow_mono, eq-eqb, ne_eqb}
+use Rattle.std.proofs.Common.{◌≡◌, ℕ, zero, suc, ◌+◌, ◌-◌, ◌*◌, ◌/◌, ◌%◌, ◌^◌, ◌<◌, ◌≤◌, true, false, eqb, ◌⊎◌, List, [], ◌∷◌, ◌++◌, length, get_or, take, set, replicate, sum, sym, refl, ap, ◌∙◌, subst, inl, inr, ⊎_elim, append_assoc, append-nil, mod-lt, mul-le-mul_left, div-mul-le_self, arith, length-append, length-set, pow_pos, pow_mono, eq-eqb, ne_eqb}
 use lib.Pow.{shr_mono}
 use Rattle.std.proofs.lemmas.List.Elements.{filter-append}
 use Rattle.std.proofs.lemmas.List.{get_or-set_same, get_or-set_other, get_or-replicate, length_push, length-replicate, take-replicate}
 use Rattle.std.proofs.lemmas.List.Sums.{sum_by-set, sum_by-cons}
 use Rattle.std.proofs.lemmas.Bool.{cases_lt}
 use Rattle.geometry.specs.Lines.{upward, lines}
-use Rattle.listing.specs.Touches.{of_set, Room, Roomy, Full, Admits, Counted, CountedOn}
+use Rattle.listing.specs.Touches.{of_set, Room, Roomy, Counted, CountedOn}
 
 pub of_set_here : (s : ℕ) (taken : List ℕ) (x j : ℕ) → x % 2 ^ s ≡ j → length (of_set s j (taken ++ x ∷ [])) ≡ length (of_set s j taken) + 1
 unfolding of_set

@@ -1,16 +1,13 @@
 -- A trace, line after line: what is still to come gives the whole.
-use Rattle.std.proofs.Common.{◌≡◌, ℕ, ◌+◌, ◌^◌, ◌⊎◌, List, [], ◌∷◌, Ok, Err, Result, sym, refl, ap, ◌∙◌, subst, inl, inr, ⊎_elim, arith}
-use Rattle.geometry.specs.declared.refusal.Refusal.{Refusal}
-use Rattle.geometry.specs.declared.refusal.Refusal.TheVariants.{SetFull}
+use Rattle.std.proofs.Common.{◌≡◌, ℕ, ◌+◌, List, [], ◌∷◌, Ok, Err, Result, sym, refl, ap, subst, inl, inr, arith}
 use Rattle.notations.specs.Formats.{grammar_of}
-use Rattle.notations.specs.Grammar.{Reading, Said, skipped, told, refused, Means}
+use Rattle.notations.specs.Grammar.{Reading, skipped, told, refused, Means}
 use Rattle.notations.specs.Layers.{paired}
 use Rattle.notations.specs.declared.fault.LineFault.{LineFault}
-use Rattle.notations.specs.declared.fault.TextFault.{TextFault}
 use Rattle.notations.specs.declared.line.Record.{Record}
 use Rattle.listing.specs.Counting.{RecordCounted, LineCounted, TraceCounted}
-use Rattle.listing.specs.Touches.{Admits, Counted}
-use Rattle.listing.specs.Trace.{Ending, whole, stopped, Traced, ending}
+use Rattle.listing.specs.Touches.{Counted}
+use Rattle.listing.specs.Trace.{Ending, whole, stopped, Traced}
 use Rattle.listing.specs.declared.first.Settings.{Settings}
 
 -- what a record's line says

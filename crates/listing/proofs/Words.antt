@@ -1,8 +1,6 @@
 -- Words and small numbers, by their bytes.
-use Rattle.std.proofs.Common.{◌≡◌, ℕ, ◌+◌, ◌*◌, ◌<◌, ◌≤◌, List, [], ◌∷◌, length, get_or, Some, None, Option, sym, refl, ap, ◌∙◌, subst, arith, MatchOption}
-use Rattle.std.specs.Str.Parse.{AllDigits, digits_value}
+use Rattle.std.proofs.Common.{◌≡◌, ℕ, ◌+◌, ◌*◌, ◌<◌, ◌≤◌, List, [], ◌∷◌, length, get_or, Some, None, Option, arith, MatchOption}
 use Rattle.std.specs.Char.{digit_value}
-use Rattle.notations.specs.Bytes.{Figures}
 use Rattle.listing.specs.Fields.{Number}
 
 pub three : (bs : List ℕ) (a b c : ℕ) → length bs ≡ 3 → get_or bs 0 0 ≡ a → get_or bs 1 0 ≡ b → get_or bs 2 0 ≡ c → bs ≡ a ∷ b ∷ c ∷ []

@@ -1,5 +1,5 @@
 -- The first line of the program's input: b, s, W, k, a notation and a policy, with single spaces.
-use Rattle.std.specs.Prelude.{◌≡◌, ℕ, ◌+◌, ◌-◌, ◌≤◌, cond, ◌⊎◌, List, [], ◌∷◌, length, drop, Ok, Err, codes, Result, ◌==◌, nat_le}
+use Rattle.std.specs.Prelude.{◌≡◌, ℕ, ◌+◌, ◌≤◌, cond, ◌⊎◌, List, [], ◌∷◌, length, drop, Ok, Err, codes, Result, ◌==◌, nat_le}
 use Rattle.std.specs.Str.Parse.{digits_value}
 use Rattle.notations.specs.Bytes.{Figures}
 use Rattle.notations.specs.Text.{onto}

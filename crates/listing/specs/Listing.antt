@@ -4,7 +4,7 @@ use Rattle.std.specs.List.{flat_map}
 use Rattle.geometry.specs.Lines.{upward}
 use Rattle.geometry.specs.Refusals.{number}
 use Rattle.geometry.specs.declared.refusal.Refusal.{Refusal}
-use Rattle.geometry.specs.declared.refusal.Refusal.TheVariants.{FirstLine as WrongFirst, Input, Output}
+use Rattle.geometry.specs.declared.refusal.Refusal.TheVariants.{FirstLine as WrongFirst, Input}
 use Rattle.notations.specs.Formats.{grammar_of}
 use Rattle.notations.specs.Text.{lines}
 use Rattle.listing.specs.Copies.{Copied}

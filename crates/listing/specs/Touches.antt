@@ -1,5 +1,5 @@
 -- The touches taken: a list of line numbers, in the order of their touch numbers.
-use Rattle.std.specs.Prelude.{◌≡◌, ℕ, ◌%◌, ◌^◌, ◌<◌, ◌≤◌, Bool, true, false, List, [], ◌∷◌, ◌++◌, length, sum, filter, nat_eq, slice_index}
+use Rattle.std.specs.Prelude.{◌≡◌, ℕ, ◌%◌, ◌^◌, ◌<◌, Bool, true, false, List, [], ◌∷◌, ◌++◌, length, sum, filter, nat_eq, slice_index}
 
 -- those of a set: the lines whose number modulo 2^s is the set's
 unfoldable pub of_set : ℕ → ℕ → List ℕ → List ℕ

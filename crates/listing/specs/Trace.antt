@@ -3,7 +3,7 @@ use Rattle.std.specs.Prelude.{◌≡◌, ℕ, ◌+◌, ◌⊎◌, List, [], ◌�
 use Rattle.geometry.specs.Lines.{lines}
 use Rattle.geometry.specs.declared.refusal.Refusal.{Refusal}
 use Rattle.geometry.specs.declared.refusal.Refusal.TheVariants.{SetFull}
-use Rattle.notations.specs.Grammar.{Grammar, Reading, Said, skipped, told, refused, Means}
+use Rattle.notations.specs.Grammar.{Grammar, Said, skipped, told, refused, Means}
 use Rattle.notations.specs.declared.fault.TextFault.{TextFault}
 use Rattle.listing.specs.Touches.{Admits}
 

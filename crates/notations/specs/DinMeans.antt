@@ -1,6 +1,6 @@
 -- din: how its lines go on, where they do not, and that a line is one record at most.
-use Rattle.std.specs.Prelude.{◌≡◌, ℕ, suc, ◌+◌, ◌-◌, ◌<◌, ◌≤◌, cond, ◌⊎◌, List, [], ◌∷◌, ◌++◌, length, take, drop, Some as Just, None, Option, ◌==◌, ◌≢◌, slice_index, slice_index_or, refl}
-use Rattle.std.proofs.Common.{sym, ap, subst, ◌∙◌, inl, inr, ⊎_elim, append_assoc, append-nil, arith, length-append, length-drop, take-append-drop}
+use Rattle.std.specs.Prelude.{◌≡◌, ℕ, ◌+◌, ◌-◌, ◌<◌, ◌≤◌, cond, ◌⊎◌, List, [], ◌∷◌, ◌++◌, length, take, drop, Some as Just, None, Option, ◌==◌, ◌≢◌, slice_index, slice_index_or, refl}
+use Rattle.std.proofs.Common.{sym, ap, subst, ◌∙◌, inl, inr, ⊎_elim, append_assoc, arith, length-append, length-drop, take-append-drop}
 use Rattle.std.proofs.ByRecursion.{All-get_or}
 use Rattle.std.proofs.lemmas.List.{take_all, length-take-le, length_push, drop_all, drop_more, take_rest, get_or-drop}
 use Rattle.std.proofs.lemmas.Bool.{cases_lt}
@@ -14,7 +14,7 @@ use Rattle.notations.specs.Grammar.{Reading, Begins, Misfits, Refuses, One}
 use Rattle.notations.specs.declared.line.Kind.{Kind}
 use Rattle.notations.specs.declared.line.Kind.TheVariants.{Fetch, Load, Store, Modify}
 use Rattle.notations.specs.Meanings.{Dies, misfits, unknown_kind, misfit, one_meaning}
-use Rattle.notations.specs.Runs.{Blanks, More, Some, Apart, blanks_in, blanks_out, blanks_done, some_in, some_out, more_done, more_end, Ends, same_run, digits_all, all_here, digit_solid}
+use Rattle.notations.specs.Runs.{Blanks, More, Some, Apart, blanks_in, blanks_out, blanks_done, some_in, some_out, more_done, Ends, same_run, digits_all, all_here, digit_solid}
 
 abbrev pub IsLabel : ℕ → Type 0
 IsLabel b = (b ≡ 48) ⊎ ((b ≡ 49) ⊎ (b ≡ 50))

@@ -1,17 +1,15 @@
 -- Lackey: how its lines go on, where they do not, and that a line is one record at most.
-use Rattle.std.specs.Prelude.{◌≡◌, ℕ, suc, ◌+◌, ◌-◌, ◌<◌, ◌≤◌, cond, ◌⊎◌, List, [], ◌∷◌, ◌++◌, length, take, drop, ◌==◌, ◌≢◌, slice_index, slice_index_or, refl}
+use Rattle.std.specs.Prelude.{◌≡◌, ℕ, ◌+◌, ◌-◌, ◌<◌, ◌≤◌, cond, ◌⊎◌, List, [], ◌∷◌, ◌++◌, length, take, drop, ◌==◌, ◌≢◌, slice_index, slice_index_or, refl}
 use Rattle.std.proofs.Common.{sym, ap, subst, ◌∙◌, inl, inr, ⊎_elim, append_assoc, append-nil, arith, length-append, length-drop, take-append-drop}
 use Rattle.std.proofs.ByRecursion.{All-get_or}
-use Rattle.std.proofs.lemmas.List.{take_all, take_rest, length-take-le, length_push, drop_all, drop_more, get_or-drop}
-use Rattle.std.proofs.lemmas.Bool.{cases_lt}
+use Rattle.std.proofs.lemmas.List.{take_all, take_rest, length-take-le, drop_more, get_or-drop}
 use Rattle.std.specs.Str.Parse.{AllDigits, digits_value}
 use Rattle.std.specs.Char.{digit_value}
 use Rattle.std.specs.List.{between, AllByRecursion}
-use Rattle.geometry.specs.Lines.{Sized, Within}
-use Rattle.geometry.specs.declared.refusal.Refusal.TheVariants.{UnknownKind, Misfit, Size, PastMemory}
+use Rattle.geometry.specs.declared.refusal.Refusal.TheVariants.{UnknownKind, Misfit}
 use Rattle.notations.specs.Bytes.{Blank, Figures, Indent, Longest}
-use Rattle.notations.specs.Grammar.{Reading, Begins, Misfits, Refuses, One}
-use Rattle.notations.specs.Lackey.{prefix, LackeyRecord, lackey, Lead, Skips, Unopened, Commented, Letter}
+use Rattle.notations.specs.Grammar.{Reading, Begins, Refuses, One}
+use Rattle.notations.specs.Lackey.{prefix, LackeyRecord, lackey, Unopened, Commented, Letter}
 use Rattle.notations.specs.declared.line.Kind.{Kind}
 use Rattle.notations.specs.declared.line.Kind.TheVariants.{Fetch, Load, Store, Modify}
 use Rattle.notations.specs.Meanings.{Dies, misfits, unknown_kind, misfit, one_meaning}
@@ -350,10 +348,10 @@ fault_kind line b bs e other =
 
 pub fault_first : (line : List ℕ) → (AllByRecursion Blank line → ⊥) → (0 < length line → slice_index line 0 ≢ 73) → (1 < length line → slice_index line 0 ≢ 32) → Refuses lackey line UnknownKind 1
 unfolding lackey
-fault_first [] solid not-I not-space = absurd (solid tt)
-fault_first (b ∷ bs) solid not-I not-space =
+fault_first [] solid not_I not_space = absurd (solid tt)
+fault_first (b ∷ bs) solid not_I not_space =
     unknown_kind lackey (b ∷ bs) [] (b ∷ bs) 0 refl refl
-    (misfits lackey AtKind [] (b ∷ bs) (begins [] (73 ∷ (32 ∷ (32 ∷ (48 ∷ (44 ∷ (48 ∷ [])))))) Fetch (48 ∷ []) (48 ∷ []) refl zero_address zero_size) at_kind (λ rest k. ⊎_elim (λ w. not-I (omega arith) w.0) (λ w. not-space (longer bs solid w.0) w.0) k))
+    (misfits lackey AtKind [] (b ∷ bs) (begins [] (73 ∷ (32 ∷ (32 ∷ (48 ∷ (44 ∷ (48 ∷ [])))))) Fetch (48 ∷ []) (48 ∷ []) refl zero_address zero_size) at_kind (λ rest k. ⊎_elim (λ w. not_I (omega arith) w.0) (λ w. not_space (longer bs solid w.0) w.0) k))
     (inl refl)
   where
     longer : (bs : List ℕ) → (AllByRecursion Blank (b ∷ bs) → ⊥) → b ≡ 32 → 1 < length (b ∷ bs)

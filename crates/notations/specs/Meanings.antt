@@ -1,12 +1,12 @@
 -- Misfits of any notation, from how a line can go on; and that a line has one meaning at most where it has one record at most.
-use Rattle.std.specs.Prelude.{◌≡◌, ℕ, suc, ◌+◌, ◌<◌, ◌≤◌, ◌⊎◌, List, [], ◌∷◌, ◌++◌, length, take, drop, refl}
+use Rattle.std.specs.Prelude.{◌≡◌, ℕ, ◌+◌, ◌<◌, ◌≤◌, List, [], ◌∷◌, ◌++◌, length, take, drop, refl}
 use Rattle.std.proofs.Common.{sym, ap, subst, ◌∙◌, inl, inr, ⊎_elim, append_assoc, append-nil, arith, length-append, take-append-drop}
 use Rattle.std.proofs.lemmas.List.{take_at, take-take, length_push}
 use Rattle.std.proofs.lemmas.Bool.{cases_lt}
 use Rattle.geometry.specs.Lines.{Sized, Within}
 use Rattle.geometry.specs.declared.refusal.Refusal.{Refusal}
 use Rattle.geometry.specs.declared.refusal.Refusal.TheVariants.{UnknownKind, Misfit, Size, PastMemory}
-use Rattle.notations.specs.Grammar.{Reading, Grammar, Begins, Misfits, Refuses, Said, skipped, told, refused, Means, One}
+use Rattle.notations.specs.Grammar.{Reading, Grammar, Begins, Misfits, Refuses, skipped, told, refused, One}
 
 -- nothing goes on like this: not where the line ends, nor with its next byte
 abbrev pub Dies : (List ℕ → Type 0) → List ℕ → Type 0

@@ -6,7 +6,7 @@ use Rattle.geometry.specs.declared.refusal.Refusal.TheVariants.{Limits, Memory}
 use Rattle.replacement.specs.Policy.{state_after}
 use Rattle.replacement.specs.Sets.{held_in, next_of, cleared_of, opened, RowLaws}
 use Rattle.replacement.proofs.Sets.{idle}
-use Rattle.policies.specs.Memory.{allowed, checked, used, HoldsNothing}
+use Rattle.policies.specs.Memory.{allowed, used, HoldsNothing}
 
 pub record Uses (rows s w n : ℕ) : Type 0 where
   pub long : n ≤ rows

@@ -1,5 +1,5 @@
 -- Operations on the memory of a set, and on the list that it stands for.
-use Rattle.std.proofs.Common.{◌≡◌, ℕ, zero, suc, ◌+◌, ◌-◌, ◌<◌, ◌≤◌, max, Bool, true, false, cond, ◌&&◌, ltb, leb, ◌⊎◌, List, [], ◌∷◌, ◌++◌, length, get_or, take, drop, set, Some, None, Option, sym, refl, ap, ◌∙◌, subst, ap₂, subst₂, ⊎_elim, append_assoc, append-nil, arith, length-set, drop-cons}
+use Rattle.std.proofs.Common.{◌≡◌, ℕ, zero, suc, ◌+◌, ◌-◌, ◌<◌, ◌≤◌, Bool, true, false, cond, ◌&&◌, ltb, leb, ◌⊎◌, List, [], ◌∷◌, ◌++◌, length, get_or, take, drop, set, Some, None, Option, sym, refl, ap, ◌∙◌, subst, ap₂, subst₂, ⊎_elim, append_assoc, append-nil, arith, length-set, drop-cons}
 use Rattle.std.specs.List.{between}
 use Rattle.std.proofs.lemmas.Bool.{and_parts, and_from, and_left, and_right, ltb-true, lt-ltb, le-ltb, le-leb, lt-leb}
 use Rattle.std.proofs.lemmas.Bool.Decides.{nat_tests}
@@ -61,25 +61,25 @@ pub small_raise : (from to : ℕ) (gs : List ℕ) → Small gs → all_below 16 
 small_raise from to gs s e = record { few = omega (arith, s.few, length_bump from to gs); low = within_raise from to gs s.low e }
 
 -- ---- one operation
-pub record Did {M : Type 0} (a : Algebra M) (k : ℕ) (o : Operation) (gs gs-after : List ℕ) (r : Answer M) : Type 0 where
-  pub leaves_list : gs-after ≡ after k o gs
+pub record Did {M : Type 0} (a : Algebra M) (k : ℕ) (o : Operation) (gs gs_after : List ℕ) (r : Answer M) : Type 0 where
+  pub leaves_list : gs_after ≡ after k o gs
   pub answers : r ≡ reply a k o gs
 
 module _ {M : Type 0} (a : Algebra M) (k : ℕ) (o : Operation) (gs : List ℕ) where
-  pub did_push : (gs-after : List ℕ) → o ≡ Push → length gs < leaves k → gs-after ≡ gs ++ (0 ∷ []) → Did a k o gs gs-after Done
-  did_push gs-after is h e =
+  pub did_push : (gs_after : List ℕ) → o ≡ Push → length gs < leaves k → gs_after ≡ gs ++ (0 ∷ []) → Did a k o gs gs_after Done
+  did_push gs_after is h e =
       let t = sym (lt-ltb (length gs) (leaves k) h) in
-      subst (λ p. Did a k p gs gs-after Done) (sym is) (record { leaves_list = e ∙ ap (λ b. cond b (gs ++ (0 ∷ [])) gs) t; answers = ap (λ b. cond b Done Refused) t })
+      subst (λ p. Did a k p gs gs_after Done) (sym is) (record { leaves_list = e ∙ ap (λ b. cond b (gs ++ (0 ∷ [])) gs) t; answers = ap (λ b. cond b Done Refused) t })
 
   pub not_push : o ≡ Push → leaves k ≤ length gs → Did a k o gs gs Refused
   not_push is h =
       let f = sym (le-ltb (length gs) (leaves k) h) in
       subst (λ p. Did a k p gs gs Refused) (sym is) (record { leaves_list = ap (λ b. cond b (gs ++ (0 ∷ [])) gs) f; answers = ap (λ b. cond b Done Refused) f })
 
-  pub did_raise : (from to : ℕ) (gs-after : List ℕ) → o ≡ Raise from to → to ≤ length gs → all_below 16 (between from to gs) ≡ true → gs-after ≡ bump from to gs → Did a k o gs gs-after Done
-  did_raise from to gs-after is h low e =
+  pub did_raise : (from to : ℕ) (gs_after : List ℕ) → o ≡ Raise from to → to ≤ length gs → all_below 16 (between from to gs) ≡ true → gs_after ≡ bump from to gs → Did a k o gs gs_after Done
+  did_raise from to gs_after is h low e =
       let t : true ≡ raisable from to gs = sym (and_from (leb to (length gs)) (all_below 16 (between from to gs)) (le-leb to (length gs) h) low) in
-      subst (λ p. Did a k p gs gs-after Done) (sym is) (record { leaves_list = e ∙ ap (λ b. cond b (bump from to gs) gs) t; answers = ap (λ b. cond b Done Refused) t })
+      subst (λ p. Did a k p gs gs_after Done) (sym is) (record { leaves_list = e ∙ ap (λ b. cond b (bump from to gs) gs) t; answers = ap (λ b. cond b Done Refused) t })
 
   pub not_raise : (from to : ℕ) → o ≡ Raise from to → (length gs < to) ⊎ (all_below 16 (between from to gs) ≡ false) → Did a k o gs gs Refused
   not_raise from to is h =
@@ -108,11 +108,11 @@ module _ {M : Type 0} {a : Algebra M} {k : ℕ} {os : List Operation} where
       let empty : occupancies k 0 nodes recent ≡ [] = nil_from_length (occupancies k 0 nodes recent) (shape s).all_long in
       record { within = omega arith; long = long; sound = s; ends = ap (ending k os) empty; answers = ap (replies a k os) empty }
 
-  pub going_more : {n m i : ℕ} {o : Operation} {r : Answer M} {nodes nodes-after : List (Node (Both Peak M))} {recent recent-after : List ℕ} {replied : List (Answer M)}
-      → Going a k n i os nodes recent replied → i < length os → get_or os i Push ≡ o → Sound (both peak a) k m nodes-after recent-after
-      → occupancies k m nodes-after recent-after ≡ after k o (occupancies k n nodes recent) → r ≡ reply a k o (occupancies k n nodes recent)
-      → Going a k m (i + 1) os nodes-after recent-after (set replied i r)
-  going_more {n} {m} {i} {o} {r} {nodes} {nodes-after} {recent} {recent-after} {replied} g lt at s gaps_are answer-is =
+  pub going_more : {n m i : ℕ} {o : Operation} {r : Answer M} {nodes nodes_after : List (Node (Both Peak M))} {recent recent_after : List ℕ} {replied : List (Answer M)}
+      → Going a k n i os nodes recent replied → i < length os → get_or os i Push ≡ o → Sound (both peak a) k m nodes_after recent_after
+      → occupancies k m nodes_after recent_after ≡ after k o (occupancies k n nodes recent) → r ≡ reply a k o (occupancies k n nodes recent)
+      → Going a k m (i + 1) os nodes_after recent_after (set replied i r)
+  going_more {n} {m} {i} {o} {r} {nodes} {nodes_after} {recent} {recent_after} {replied} g lt at s gaps_are answer_is =
       let gs = occupancies k n nodes recent in
       let next : suc i ≡ i + 1 = omega arith in
       let cut : drop i os ≡ o ∷ drop (i + 1) os = drop-cons os i Push lt ∙ ap₂ ◌∷◌ at (ap (λ j. drop j os) next) in
@@ -123,7 +123,7 @@ module _ {M : Type 0} {a : Algebra M} {k : ℕ} {os : List Operation} where
         ends = ap (ending k (drop (i + 1) os)) gaps_are ∙ ap (λ xs. ending k xs gs) (sym cut) ∙ g.ends;
         answers = ap₂ (λ xs ys. xs ++ replies a k (drop (i + 1) os) ys) (take_more_set replied i r (omega (arith, g.long))) gaps_are
             ∙ append_assoc (take i replied) (r ∷ []) (replies a k (drop (i + 1) os) (after k o gs))
-            ∙ ap (λ x. take i replied ++ (x ∷ replies a k (drop (i + 1) os) (after k o gs))) answer-is
+            ∙ ap (λ x. take i replied ++ (x ∷ replies a k (drop (i + 1) os) (after k o gs))) answer_is
             ∙ ap (λ xs. take i replied ++ replies a k xs gs) (sym cut) ∙ g.answers;
       }
 
@@ -137,21 +137,21 @@ module _ {M : Type 0} {a : Algebra M} {k : ℕ} {os : List Operation} where
       )
 
   -- what the fronts of the three columns hold, said of the whole columns
-  pub carried : {n s m r : ℕ} {nodes nodes-front : List (Node (Both Peak M))} {recent recent-front : List ℕ} {replied replied-front : List (Answer M)}
+  pub carried : {n s m r : ℕ} {nodes nodes_front : List (Node (Both Peak M))} {recent recent_front : List ℕ} {replied replied_front : List (Answer M)}
       → Amounts k s m r → m ≤ length nodes → r ≤ length recent → length os ≤ length replied
-      → Sound (both peak a) k n nodes-front recent-front → occupancies k n nodes-front recent-front ≡ ending k os [] → replied-front ≡ replies a k os []
-      → Carried a k n os nodes (nodes-front ++ drop m nodes) recent (recent-front ++ drop r recent) replied (replied-front ++ drop (length os) replied)
-  carried {n} {s} {m} {r} {nodes} {nodes-front} {recent} {recent-front} {replied} {replied-front} am enough-nodes enough-recent enough-replied sound gaps_are answers-are =
-      let n_front : take (size k) (nodes-front ++ drop m nodes) ≡ nodes-front = take_at nodes-front (drop m nodes) (size k) sound.long in
-      let r_front : take (recents k) (recent-front ++ drop r recent) ≡ recent-front = take_at recent-front (drop r recent) (recents k) sound.wide in
-      let long : length replied-front ≡ length os = ap length answers-are ∙ length_replies a k os [] in
+      → Sound (both peak a) k n nodes_front recent_front → occupancies k n nodes_front recent_front ≡ ending k os [] → replied_front ≡ replies a k os []
+      → Carried a k n os nodes (nodes_front ++ drop m nodes) recent (recent_front ++ drop r recent) replied (replied_front ++ drop (length os) replied)
+  carried {n} {s} {m} {r} {nodes} {nodes_front} {recent} {recent_front} {replied} {replied_front} am enough_nodes enough_recent enough_replied sound gaps_are answers_are =
+      let n_front : take (size k) (nodes_front ++ drop m nodes) ≡ nodes_front = take_at nodes_front (drop m nodes) (size k) sound.long in
+      let r_front : take (recents k) (recent_front ++ drop r recent) ≡ recent_front = take_at recent_front (drop r recent) (recents k) sound.wide in
+      let long : length replied_front ≡ length os = ap length answers_are ∙ length_replies a k os [] in
       record {
-        enough = record { low = am.low; tree = omega (arith, am.nodes_are); array = subst (λ i. i ≤ length recent) am.recent_are enough-recent; room = enough-replied };
+        enough = record { low = am.low; tree = omega (arith, am.nodes_are); array = subst (λ i. i ≤ length recent) am.recent_are enough_recent; room = enough_replied };
         count = sym (shape sound).all_long ∙ ap length gaps_are;
         sound = subst₂ (Sound (both peak a) k n) (sym n_front) (sym r_front) sound;
         gaps = ap₂ (occupancies k n) n_front r_front ∙ gaps_are;
-        answered = take_at replied-front (drop (length os) replied) (length os) long ∙ answers-are;
-        nodes_kept = drop_at nodes-front (drop m nodes) (size k) sound.long ∙ ap (λ i. drop i nodes) am.nodes_are;
-        recent_kept = drop_at recent-front (drop r recent) (recents k) sound.wide ∙ ap (λ i. drop i recent) am.recent_are;
-        replied_kept = drop_at replied-front (drop (length os) replied) (length os) long;
+        answered = take_at replied_front (drop (length os) replied) (length os) long ∙ answers_are;
+        nodes_kept = drop_at nodes_front (drop m nodes) (size k) sound.long ∙ ap (λ i. drop i nodes) am.nodes_are;
+        recent_kept = drop_at recent_front (drop r recent) (recents k) sound.wide ∙ ap (λ i. drop i recent) am.recent_are;
+        replied_kept = drop_at replied_front (drop (length os) replied) (length os) long;
       }

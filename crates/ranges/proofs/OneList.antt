@@ -1,11 +1,11 @@
 -- The steps on the memory of a set, and what they are on the one list of its occupancies.
-use Rattle.std.proofs.Common.{◌≡◌, ℕ, zero, suc, ◌+◌, ◌-◌, ◌*◌, ◌/◌, ◌^◌, ◌<◌, ◌≤◌, min, ◌≢◌, List, [], ◌∷◌, ◌++◌, length, take, drop, set, sym, refl, ap, ◌∙◌, subst, ap₂, inl, inr, append_assoc, append-nil, arith, length-append, length-set, length-take}
+use Rattle.std.proofs.Common.{◌≡◌, ℕ, ◌+◌, ◌-◌, ◌^◌, ◌<◌, ◌≤◌, min, ◌≢◌, List, [], ◌∷◌, ◌++◌, length, take, drop, set, sym, ap, ◌∙◌, subst, ap₂, inl, inr, append_assoc, arith, length-append, length-set, length-take}
 use Rattle.std.specs.List.{between}
 use Rattle.std.proofs.lemmas.List.{take_more_set}
 use Rattle.summaries.specs.Algebra.{Algebra, Laws, Small, Within, Fit, summary}
 use Rattle.summaries.specs.Stretches.{bump}
-use Rattle.trees.specs.Trees.{leaves, size, gaps, Good}
-use Rattle.ranges.specs.Occupancies.{Sound, occupancies, older, recents}
+use Rattle.trees.specs.Trees.{leaves, gaps, Good}
+use Rattle.ranges.specs.Occupancies.{Sound, occupancies, older}
 use Rattle.trees.specs.declared.tree.Node.{Node}
 use Rattle.summaries.proofs.Sums.{summary_append}
 use Rattle.summaries.proofs.Rows.{between_append, between_none, small_left, small_right, small_between, within_take}
@@ -81,8 +81,8 @@ pub record Lifting {K : Type 0} (a : Algebra K) (k n from to : ℕ) (nodes : Lis
   pub older_small : Small (bump from (min to (older n)) (gaps k (older n) nodes))
   pub newer_low : Within 16 (bump (from - older n) (to - older n) (take (to - older n) recent))
   pub idle : older n ≤ from → gaps k (older n) nodes ≡ bump from (min to (older n)) (gaps k (older n) nodes)
-  pub over : (nodes-after : List (Node K)) (recent-after : List ℕ) → length nodes-after ≡ length nodes → Good a k (older n) nodes-after → gaps k (older n) nodes-after ≡ bump from (min to (older n)) (gaps k (older n) nodes)
-      → recent-after ≡ bump (from - older n) (to - older n) recent → Sound a k n nodes-after recent-after × (occupancies k n nodes-after recent-after ≡ bump from to (occupancies k n nodes recent))
+  pub over : (nodes_after : List (Node K)) (recent_after : List ℕ) → length nodes_after ≡ length nodes → Good a k (older n) nodes_after → gaps k (older n) nodes_after ≡ bump from (min to (older n)) (gaps k (older n) nodes)
+      → recent_after ≡ bump (from - older n) (to - older n) recent → Sound a k n nodes_after recent_after × (occupancies k n nodes_after recent_after ≡ bump from to (occupancies k n nodes recent))
 
 pub lifting : {K : Type 0} {a : Algebra K} (k n from to : ℕ) (nodes : List (Node K)) (recent : List ℕ) → Sound a k n nodes recent → to ≤ n → Small (bump from to (occupancies k n nodes recent)) → Lifting a k n from to nodes recent
 lifting {K} {a} k n from to nodes recent s within small =
@@ -102,9 +102,9 @@ lifting {K} {a} k n from to nodes recent s within small =
       older_small = small_left u v parts;
       newer_low = subst (Within 16) front (within_take 16 (to - o) v (small_right u v parts).low);
       idle = λ le. sym (bump_none from (min to o) g (omega arith));
-      over = λ nodes-after recent-after long good is was.
-          let newer : take (n - o) recent-after ≡ v = ap (take (n - o)) was ∙ bump_take (n - o) (from - o) (to - o) recent in
-          let all : occupancies k n nodes-after recent-after ≡ bump from to (g ++ t) = ap₂ ◌++◌ is newer ∙ sym cut in (
+      over = λ nodes_after recent_after long good is was.
+          let newer : take (n - o) recent_after ≡ v = ap (take (n - o)) was ∙ bump_take (n - o) (from - o) (to - o) recent in
+          let all : occupancies k n nodes_after recent_after ≡ bump from to (g ++ t) = ap₂ ◌++◌ is newer ∙ sym cut in (
             record {
               long = long ∙ s.long;
               wide = ap length was ∙ length_bump (from - o) (to - o) recent ∙ s.wide;
@@ -129,9 +129,9 @@ pub record Moving {K : Type 0} (a : Algebra K) (k n : ℕ) (nodes : List (Node K
   pub wide : 128 ≤ length written
   pub room : older n + length (take 64 written) ≤ leaves k
   pub small : Small (gaps k (older n) nodes ++ take 64 written)
-  pub over : (nodes-after : List (Node K)) (recent-after : List ℕ) → length nodes-after ≡ length nodes → length recent-after ≡ length written → Good a k (older n + length (take 64 written)) nodes-after
-      → gaps k (older n + length (take 64 written)) nodes-after ≡ gaps k (older n) nodes ++ take 64 written → take 64 recent-after ≡ take 64 (drop 64 written)
-      → Sound a k (n + 1) nodes-after recent-after × (occupancies k (n + 1) nodes-after recent-after ≡ occupancies k n nodes recent ++ (0 ∷ []))
+  pub over : (nodes_after : List (Node K)) (recent_after : List ℕ) → length nodes_after ≡ length nodes → length recent_after ≡ length written → Good a k (older n + length (take 64 written)) nodes_after
+      → gaps k (older n + length (take 64 written)) nodes_after ≡ gaps k (older n) nodes ++ take 64 written → take 64 recent_after ≡ take 64 (drop 64 written)
+      → Sound a k (n + 1) nodes_after recent_after × (occupancies k (n + 1) nodes_after recent_after ≡ occupancies k n nodes recent ++ (0 ∷ []))
 
 pub record Pushing {K : Type 0} (a : Algebra K) (k n : ℕ) (nodes : List (Node K)) (recent : List ℕ) : Type 0 where
   pub shaped : Shape k n nodes recent
@@ -171,9 +171,9 @@ pushing {K} {a} k n nodes recent s free few =
             wide = wide;
             room = omega (arith, free);
             small = small_left (g ++ take 64 written) (take 64 (drop 64 written)) (subst Small (sym moved) small);
-            over = λ nodes-after recent-after nodes_long recent_long good is front.
-                let is_all : occupancies k (n + 1) nodes-after recent-after ≡ (g ++ t) ++ (0 ∷ []) =
-                ap (λ i. gaps k i nodes-after ++ take (n + 1 - i) recent-after) more ∙ ap (λ i. gaps k (o + length (take 64 written)) nodes-after ++ take i recent-after) count ∙ ap₂ ◌++◌ is front ∙ moved in
-                (record { long = nodes_long ∙ s.long; wide = recent_long ∙ long ∙ s.wide; room = omega arith; good = subst (λ i. Good a k i nodes-after) (sym more) good; small = subst Small (sym is_all) small }, is_all);
+            over = λ nodes_after recent_after nodes_long recent_long good is front.
+                let is_all : occupancies k (n + 1) nodes_after recent_after ≡ (g ++ t) ++ (0 ∷ []) =
+                ap (λ i. gaps k i nodes_after ++ take (n + 1 - i) recent_after) more ∙ ap (λ i. gaps k (o + length (take 64 written)) nodes_after ++ take i recent_after) count ∙ ap₂ ◌++◌ is front ∙ moved in
+                (record { long = nodes_long ∙ s.long; wide = recent_long ∙ long ∙ s.wide; room = omega arith; good = subst (λ i. Good a k i nodes_after) (sym more) good; small = subst Small (sym is_all) small }, is_all);
           };
     }

@@ -1,7 +1,7 @@
 -- A tree without gaps, and how much memory there is to be.
-use Rattle.std.proofs.Common.{◌≡◌, ℕ, zero, suc, ◌+◌, ◌-◌, ◌*◌, ◌%◌, ◌^◌, ◌<◌, ◌≤◌, min, List, [], ◌∷◌, ◌++◌, length, take, drop, replicate, sym, refl, ap, ◌∙◌, subst, pow-suc, arith, pow_mono}
+use Rattle.std.proofs.Common.{◌≡◌, ℕ, zero, suc, ◌+◌, ◌-◌, ◌*◌, ◌%◌, ◌^◌, ◌≤◌, min, List, [], ◌++◌, length, take, drop, replicate, sym, refl, ap, ◌∙◌, subst, pow-suc, arith, pow_mono}
 use lib.ListN.{length-replicate}
-use Rattle.std.proofs.lemmas.List.{take-replicate, drop-replicate, nil_from_length, take_all}
+use Rattle.std.proofs.lemmas.List.{take-replicate, drop-replicate, nil_from_length}
 use Rattle.summaries.specs.Algebra.{Algebra, Small, summary}
 use Rattle.trees.specs.Trees.{leaves, size, gaps, Good}
 use Rattle.ranges.specs.Occupancies.{Amounts, Sound, occupancies, recents}
@@ -39,6 +39,6 @@ leaves_pow zero = refl
 leaves_pow (suc k) = omega (arith, leaves_pow k, pow-suc 2 k)
 
 pub amounts : (k s m r : ℕ) → k ≤ 16 → s ≡ 1 * 2 ^ k % 2 ^ 64 → m ≡ 2 * s - 1 → r ≡ min s 128 → Amounts k s m r
-amounts k s m r low s_is m-is r-is =
+amounts k s m r low s_is m_is r_is =
     let slots : s ≡ leaves k = omega (arith, pow_mono low, leaves_pow k) in
-    record { low = low; slots_are = slots; nodes_are = omega (arith, size_leaves k); recent_are = r-is ∙ ap (λ i. min i 128) slots }
+    record { low = low; slots_are = slots; nodes_are = omega (arith, size_leaves k); recent_are = r_is ∙ ap (λ i. min i 128) slots }

@@ -52,23 +52,23 @@ pub record Enough (k nodes recent many replied : ℕ) : Type 0 where
   pub room : many ≤ replied
 
 -- operations that were refused as a whole: the memory is not enough, and as it was
-pub record Untouched {M : Type 0} (k : ℕ) (os : List Operation) (nodes nodes-end : List (Node (Both Peak M))) (recent recent-end : List ℕ) (replied replied-end : List (Answer M)) : Type 0 where
+pub record Untouched {M : Type 0} (k : ℕ) (os : List Operation) (nodes nodes_end : List (Node (Both Peak M))) (recent recent_end : List ℕ) (replied replied_end : List (Answer M)) : Type 0 where
   pub scarce : Enough k (length nodes) (length recent) (length os) (length replied) → ⊥
-  pub nodes_same : nodes-end ≡ nodes
-  pub recent_same : recent-end ≡ recent
-  pub replied_same : replied-end ≡ replied
+  pub nodes_same : nodes_end ≡ nodes
+  pub recent_same : recent_end ≡ recent
+  pub replied_same : replied_end ≡ replied
 
 -- a column of memory of which only the first n elements were written
 abbrev pub Beyond : {X : Type 0} → ℕ → List X → List X → Type 0
 Beyond n before end = drop n end ≡ drop n before
 
 -- operations that were carried out from empty: the memory stands for what they make of an empty list, each answer is what the list gives, and nothing further was written
-pub record Carried {M : Type 0} (a : Algebra M) (k n : ℕ) (os : List Operation) (nodes nodes-end : List (Node (Both Peak M))) (recent recent-end : List ℕ) (replied replied-end : List (Answer M)) : Type 0 where
+pub record Carried {M : Type 0} (a : Algebra M) (k n : ℕ) (os : List Operation) (nodes nodes_end : List (Node (Both Peak M))) (recent recent_end : List ℕ) (replied replied_end : List (Answer M)) : Type 0 where
   pub enough : Enough k (length nodes) (length recent) (length os) (length replied)
   pub count : n ≡ length (ending k os [])
-  pub sound : Sound (both peak a) k n (take (size k) nodes-end) (take (recents k) recent-end)
-  pub gaps : occupancies k n (take (size k) nodes-end) (take (recents k) recent-end) ≡ ending k os []
-  pub answered : take (length os) replied-end ≡ replies a k os []
-  pub nodes_kept : Beyond (size k) nodes nodes-end
-  pub recent_kept : Beyond (recents k) recent recent-end
-  pub replied_kept : Beyond (length os) replied replied-end
+  pub sound : Sound (both peak a) k n (take (size k) nodes_end) (take (recents k) recent_end)
+  pub gaps : occupancies k n (take (size k) nodes_end) (take (recents k) recent_end) ≡ ending k os []
+  pub answered : take (length os) replied_end ≡ replies a k os []
+  pub nodes_kept : Beyond (size k) nodes nodes_end
+  pub recent_kept : Beyond (recents k) recent recent_end
+  pub replied_kept : Beyond (length os) replied replied_end

@@ -1,8 +1,7 @@
 // The gaps of one set, in lent memory: the older ones in a tree, the newest 64 to 127 as plain occupancies in an array beside it. Most stretches are
 // short and end at the newest gap, so they never reach the tree. A contract knows only one list of occupancies, the oldest first.
 //
-// A caller whose two slices are fields of one struct behind a `&mut` cannot lend both at once. It takes the same steps as `raise` and `push` here,
-// one slice at a time.
+// A caller that lends one slice at a time can take the same steps as `raise` and `push` here.
 ghost use Rattle.std.specs.Prelude.{◌≡◌, ℕ, ◌+◌, ◌-◌, ◌*◌, ◌/◌, ◌%◌, ◌^◌, ◌<◌, ◌≤◌, List, [], ◌∷◌, ◌++◌, length, take, drop, MatchOption};
 ghost use Rattle.summaries.specs.Algebra.{Algebra, Small, Within, summary};
 ghost use Rattle.summaries.specs.Stretches.{bump};

@@ -1,14 +1,14 @@
 -- Least recently used: its laws over runs, said of the touches, and what the rule keeps of a row.
-use Rattle.std.proofs.Common.{◌≡◌, ℕ, zero, suc, ◌+◌, ◌<◌, ◌≤◌, min, Bool, true, false, cond, not, ◌&&◌, ◌||◌, eqb, ltb, ◌⊎◌, List, [], ◌∷◌, map, length, get_or, take, set, sym, refl, ap, ◌∙◌, subst, inl, inr, ⊎_elim, not-suc-le-zero, arith}
+use Rattle.std.proofs.Common.{◌≡◌, ℕ, zero, suc, ◌+◌, ◌<◌, ◌≤◌, Bool, true, false, cond, ◌&&◌, eqb, ltb, ◌⊎◌, List, [], ◌∷◌, map, length, get_or, take, set, sym, refl, ap, ◌∙◌, subst, inl, inr, ⊎_elim, not-suc-le-zero, arith}
 use mir.Val.{bool_byte}
 use Rattle.std.proofs.lemmas.Bool.{cases_Bool, cond-true, cond-false, lt-ltb, le-ltb, and_parts, and_right, eqb-true}
 use Rattle.std.proofs.lemmas.Bool.Decides.{nat_tests}
 use Rattle.std.proofs.lemmas.List.{length-replicate, length-take, get_or-take, set-get_or}
 use Rattle.replacement.specs.declared.Way.{Way}
 use Rattle.histories.specs.Rule.{held}
-use Rattle.replacement.proofs.Distinct.{distinct, distinct_says}
-use Rattle.replacement.specs.Ways.{line_of, way, no_way, empty_row, lines, first, some, has_line, vacant, greatest, oldest}
-use Rattle.replacement.specs.Lru.{fresh, older, placed, touched, since, others, recent, row, MostRecent, KeepsRecent, TouchedLater, LeavesOldest, AgesTell}
+use Rattle.replacement.proofs.Distinct.{distinct_says}
+use Rattle.replacement.specs.Ways.{line_of, way, no_way, empty_row, lines, first, has_line, vacant, greatest, oldest}
+use Rattle.replacement.specs.Lru.{fresh, older, placed, touched, since, others, recent, KeepsRecent, TouchedLater, LeavesOldest, AgesTell}
 use Rattle.replacement.specs.Sets.{RowLaws}
 use Rattle.replacement.proofs.Lines.{has_take, has_others, since_within}
 use Rattle.replacement.proofs.Ways.{length_lines, lines_none, first_has, first_passes, take_set}

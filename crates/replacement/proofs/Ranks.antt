@@ -1,12 +1,12 @@
 -- Least recently used: what one touch does to a row whose held lines are ranked by age, and the law over runs.
-use Rattle.std.proofs.Common.{◌≡◌, ℕ, zero, suc, ◌+◌, ◌-◌, ◌<◌, ◌≤◌, Bool, true, false, cond, not, ◌&&◌, ◌||◌, eqb, ltb, ◌⊎◌, List, [], ◌∷◌, map, length, get_or, take, set, replicate, sym, refl, ap, ◌∙◌, subst, inl, inr, ⊎_elim, le_of_suc-le-suc, not-suc-le-zero, arith}
-use Rattle.std.proofs.lemmas.Bool.{cases_Bool, not-true, cond_both, cond-true, and_parts, eqb-true, ltb-true, ltb-false, lt-ltb}
+use Rattle.std.proofs.Common.{◌≡◌, ℕ, zero, suc, ◌<◌, ◌≤◌, Bool, true, false, cond, not, ◌&&◌, ◌||◌, eqb, ltb, List, [], ◌∷◌, map, length, get_or, take, sym, refl, ap, ◌∙◌, subst, not-suc-le-zero, arith}
+use Rattle.std.proofs.lemmas.Bool.{not-true, cond_both, cond-true, and_parts, eqb-true, ltb-true, ltb-false, lt-ltb}
 use Rattle.std.proofs.lemmas.Bool.Decides.{nat_tests}
 use Rattle.std.proofs.lemmas.List.{length-set, length-map, length-replicate, take_all}
 use Rattle.replacement.specs.declared.Way.{Way}
 use Rattle.histories.specs.Rule.{held}
 use Rattle.replacement.proofs.Distinct.{distinct}
-use Rattle.replacement.specs.Ways.{line_of, no_way, empty_row, lines, first, some, has_line, vacant, greatest, of_age, oldest}
+use Rattle.replacement.specs.Ways.{line_of, no_way, empty_row, lines, first, has_line, vacant, greatest, of_age, oldest}
 use Rattle.replacement.specs.Lru.{older, placed, renewed, filled, evicted, touched, since, others, recent, aged, row}
 use Rattle.replacement.proofs.Lines.{has_others, distinct_others, others_none, length_others, since_within, since_others, others_last, length_same, distinct_recent, take_others}
 use Rattle.replacement.proofs.Ways.{length_lines, lines_none, has_way, first_passes, first_has, oldest_within}

@@ -1,9 +1,8 @@
 -- A rule of one row makes a policy; and in each set that policy is its rule run over the set's own touches.
-use Rattle.std.proofs.Common.{◌≡◌, ℕ, zero, suc, ◌+◌, ◌%◌, ◌^◌, ◌<◌, ◌≤◌, Bool, true, false, cond, eqb, ◌≢◌, ◌⊎◌, List, [], ◌∷◌, map, length, get_or, take, drop, set, replicate, sym, refl, ap, ◌∙◌, subst, inl, inr, ⊎_elim, suc-le-suc, mod-lt, arith, pow_pos}
+use Rattle.std.proofs.Common.{◌≡◌, ℕ, zero, suc, ◌+◌, ◌%◌, ◌^◌, ◌<◌, ◌≤◌, true, false, eqb, ◌≢◌, ◌⊎◌, List, [], ◌∷◌, map, length, get_or, take, drop, set, replicate, sym, refl, ap, ◌∙◌, subst, inr, ⊎_elim, suc-le-suc, mod-lt, arith, pow_pos}
 use Rattle.std.proofs.lemmas.List.{map-set, get_or-map, get_or-set_same, get_or-set_other, get_or_past, length-set, length-map, length-replicate, length-take-le, get_or-take}
 use Rattle.std.proofs.lemmas.Bool.{cases_eq, cases_lt, cases_Bool, eqb-true, eqb-false, cond-true, cond-false}
 use Rattle.histories.specs.Rule.{held, tally}
-use Rattle.replacement.proofs.Distinct.{distinct}
 use Rattle.replacement.specs.Lines.{set_of}
 use Rattle.replacement.specs.Ways.{lines, empty_row}
 use Rattle.replacement.specs.Lru as lru

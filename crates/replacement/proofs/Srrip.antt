@@ -1,12 +1,12 @@
 -- Static re-reference interval prediction: the rises at once, and what the rule keeps of a row.
-use Rattle.std.proofs.Common.{◌≡◌, ℕ, zero, suc, ◌+◌, ◌-◌, ◌<◌, ◌≤◌, Bool, true, false, cond, not, ◌&&◌, ◌||◌, eqb, ltb, ◌⊎◌, List, [], ◌∷◌, map, length, get_or, take, set, sym, refl, ap, ◌∙◌, subst, inl, inr, ⊎_elim, not-suc-le-zero, arith}
-use Rattle.std.proofs.lemmas.Bool.{cases_Bool, cond_both, cond-true, cond-false, lt-ltb, le-ltb, and_parts, eqb-true, eqb-false}
+use Rattle.std.proofs.Common.{◌≡◌, ℕ, zero, suc, ◌+◌, ◌-◌, ◌<◌, ◌≤◌, true, false, cond, eqb, ◌⊎◌, List, [], ◌∷◌, map, length, get_or, take, set, sym, refl, ap, ◌∙◌, subst, inr, not-suc-le-zero, arith}
+use Rattle.std.proofs.lemmas.Bool.{cond_both, cond-true, cond-false, lt-ltb, le-ltb, and_parts, eqb-true, eqb-false}
 use Rattle.std.proofs.lemmas.Bool.Decides.{nat_tests}
 use Rattle.std.proofs.lemmas.List.{length-set, length-map, length-replicate, length-take, get_or-take}
 use Rattle.replacement.specs.declared.Way.{Way}
 use Rattle.histories.specs.Rule.{held}
 use Rattle.replacement.proofs.Distinct.{distinct, distinct_says}
-use Rattle.replacement.specs.Ways.{line_of, way, no_way, empty_row, lines, first, some, has_line, vacant, of_age, larger, greatest, oldest}
+use Rattle.replacement.specs.Ways.{line_of, way, no_way, empty_row, lines, first, some, has_line, vacant, of_age, greatest, oldest}
 use Rattle.replacement.specs.Srrip.{risen, ripened, placed, renewed, filled, evicted, touched, row, AgesLow, Ripens, EvictsOldest}
 use Rattle.replacement.specs.Sets.{RowLaws}
 use Rattle.replacement.proofs.Ways.{length_lines, lines_none, first_has, first_passes, take_set}

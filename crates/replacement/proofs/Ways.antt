@@ -1,13 +1,12 @@
 -- Rows of ways: the lines that they hold, and the first way that passes a test.
-use Rattle.std.proofs.Common.{◌≡◌, ℕ, zero, suc, ◌+◌, ◌-◌, ◌<◌, ◌≤◌, Bool, true, false, cond, not, ◌&&◌, eqb, ltb, ◌⊎◌, List, [], ◌∷◌, ◌++◌, map, length, get_or, take, drop, set, replicate, sym, refl, ap, ◌∙◌, subst, inl, inr, ⊎_elim, append-nil, le_of_suc-le-suc, not-suc-le-zero, arith}
-use Rattle.std.proofs.lemmas.Bool.{cases_Bool, lt-ltb, le-ltb}
+use Rattle.std.proofs.Common.{◌≡◌, ℕ, zero, suc, ◌+◌, ◌-◌, ◌<◌, ◌≤◌, Bool, true, false, cond, ltb, List, [], ◌∷◌, ◌++◌, map, length, get_or, take, drop, set, sym, refl, ap, ◌∙◌, subst, ⊎_elim, append-nil, le_of_suc-le-suc, not-suc-le-zero, arith}
+use Rattle.std.proofs.lemmas.Bool.{cases_Bool, le-ltb}
 use Rattle.std.proofs.lemmas.Bool.Decides.{nat_tests}
 use Rattle.std.proofs.lemmas.List.{drop_more, drop_all, take_all, get_or-take, get_or-drop, get_or-append_right, length-take, length-take-le, length-map}
 use Rattle.std.proofs.lemmas.List.Edits.{map_over_more}
 use Rattle.replacement.specs.declared.Way.{Way}
 use Rattle.histories.specs.Rule.{held}
-use Rattle.replacement.proofs.Distinct.{distinct}
-use Rattle.replacement.specs.Ways.{line_of, way, no_way, empty_row, lines, first, has_line, vacant, of_age, larger, greatest, oldest}
+use Rattle.replacement.specs.Ways.{line_of, no_way, empty_row, lines, first, has_line, vacant, larger, greatest, oldest}
 
 pub length_lines : (m : List Way) → length (lines m) ≤ length m
 length_lines [] = omega arith

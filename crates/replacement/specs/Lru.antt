@@ -1,5 +1,5 @@
 -- Least recently used. A line stays in its way, and its age is the number of held lines touched since: 0 for the latest.
-use Rattle.std.specs.Prelude.{◌≡◌, ℕ, zero, suc, ◌+◌, ◌<◌, min, Bool, true, false, cond, ◌&&◌, List, [], ◌∷◌, map, length, take, ◌==◌, ◌≢◌, nat_lt, slice_index_or, slice_set}
+use Rattle.std.specs.Prelude.{◌≡◌, ℕ, suc, ◌+◌, ◌<◌, min, Bool, true, false, cond, ◌&&◌, List, [], ◌∷◌, map, length, take, ◌==◌, ◌≢◌, nat_lt, slice_index_or, slice_set}
 use Rattle.replacement.specs.declared.Way.{Way}
 use Rattle.histories.specs.Rule.{held}
 use Rattle.histories.specs.Histories.{Distinct}

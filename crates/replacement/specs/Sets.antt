@@ -1,5 +1,5 @@
 -- A policy made of one row model for each set and a rule of one row.
-use Rattle.std.specs.Prelude.{◌≡◌, ℕ, ◌+◌, ◌^◌, ◌<◌, ◌≤◌, true, ◌⊎◌, List, [], ◌∷◌, map, length, take, set, replicate, slice_index_or, slice_set}
+use Rattle.std.specs.Prelude.{◌≡◌, ℕ, ◌+◌, ◌^◌, ◌<◌, ◌≤◌, true, ◌⊎◌, List, [], ◌∷◌, map, length, take, replicate, slice_index_or, slice_set}
 use Rattle.histories.specs.Rule.{held, tally}
 use Rattle.histories.specs.Histories.{Distinct}
 use Rattle.replacement.specs.Lines.{set_of}

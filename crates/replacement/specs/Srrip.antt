@@ -1,8 +1,8 @@
 -- Static re-reference interval prediction. Each way has an age from 0 to 3.
-use Rattle.std.specs.Prelude.{◌≡◌, ℕ, zero, suc, ◌+◌, ◌-◌, ◌<◌, ◌≤◌, Bool, true, false, cond, List, [], ◌∷◌, map, length, slice_set}
+use Rattle.std.specs.Prelude.{◌≡◌, ℕ, zero, suc, ◌+◌, ◌-◌, ◌<◌, ◌≤◌, true, cond, List, [], ◌∷◌, map, length, slice_set}
 use Rattle.replacement.specs.declared.Way.{Way}
 use Rattle.histories.specs.Rule.{held}
-use Rattle.replacement.specs.Ways.{line_of, way, no_way, empty_row, lines, first, some, has_line, vacant, of_age, greatest, oldest}
+use Rattle.replacement.specs.Ways.{line_of, way, empty_row, lines, first, some, has_line, vacant, of_age, greatest, oldest}
 
 -- ---- the rule of one row
 

@@ -1,5 +1,5 @@
 -- A row of ways, the ways of one set in their order. Each way is empty or holds a line, with an age.
-use Rattle.std.specs.Prelude.{ℕ, suc, Bool, true, false, cond, not, ◌&&◌, List, [], ◌∷◌, length, replicate, ◌==◌, nat_lt}
+use Rattle.std.specs.Prelude.{ℕ, suc, Bool, false, cond, not, ◌&&◌, List, [], ◌∷◌, length, replicate, ◌==◌, nat_lt}
 use Rattle.replacement.specs.declared.Way.{Way}
 
 abbrev pub line_of : Way → ℕ

@@ -1,6 +1,6 @@
 ghost use Rattle.std.specs.Prelude.{◌≡◌, ℕ, ◌+◌, ◌<◌, ◌≤◌, List, map, length, take};
 ghost use Rattle.replacement.specs.declared.Way.{Way};
-ghost use Rattle.replacement.specs.Ways.{lines as held-lines, empty_row, greatest};
+ghost use Rattle.replacement.specs.Ways.{lines as held_lines, empty_row, greatest};
 ghost use Rattle.replacement.specs.Srrip.{risen, touched};
 ghost use Rattle.replacement.proofs.Srrip.{Fine as Low, srrip_laws};
 
@@ -44,7 +44,7 @@ impl RowRule for SrripRow {
 
     ghost model = { λ w r. take w r.row.ways };
 
-    ghost lines = { held-lines };
+    ghost lines = { held_lines };
 
     ghost step = { λ _ x m. touched x m };
 

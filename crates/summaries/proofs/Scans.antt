@@ -1,7 +1,6 @@
 -- The summary of a plain row, one gap after another.
-use Rattle.std.proofs.Common.{◌≡◌, ℕ, zero, suc, ◌+◌, ◌<◌, ◌≤◌, List, [], ◌∷◌, ◌++◌, length, get_or, take, sym, refl, ap, ◌∙◌, subst, arith, length-take}
-use Rattle.std.proofs.lemmas.List.{take_all}
-use Rattle.summaries.specs.Algebra.{Algebra, Laws, Small, Within, Fit, ups, summary}
+use Rattle.std.proofs.Common.{◌≡◌, ℕ, zero, suc, ◌+◌, ◌<◌, List, [], ◌∷◌, ◌++◌, length, get_or, take, sym, ap, ◌∙◌, subst, arith, length-take}
+use Rattle.summaries.specs.Algebra.{Algebra, Laws, Small, Fit, ups, summary}
 use Rattle.summaries.proofs.Sums.{summary_append}
 use Rattle.summaries.proofs.Rows.{within_take, small_right}
 

@@ -1,7 +1,7 @@
 -- The laws of the kinds of this crate, and that their summaries fit.
-use Rattle.std.specs.Prelude.{◌≡◌, ℕ, zero, suc, ◌+◌, ◌*◌, ◌^◌, ◌<◌, ◌≤◌, max, List, [], ◌∷◌, length, Some, None, Option, refl}
+use Rattle.std.specs.Prelude.{◌≡◌, ℕ, zero, suc, ◌+◌, ◌*◌, ◌≤◌, List, [], ◌∷◌, length, Some, None, Option, refl}
 use Rattle.std.proofs.Common.{sym, ap, ap₂, subst, ◌∙◌, arith}
-use Rattle.summaries.specs.Algebra.{Algebra, Laws, Small, Within, Fit, ups, summary}
+use Rattle.summaries.specs.Algebra.{Algebra, Laws, Within, Fit, ups, summary}
 use Rattle.summaries.specs.Kinds.{of_highest, higher, more, peak, Byte, peak_fits, of_load, load, load_fits, of_both, both, both_fits}
 use Rattle.summaries.specs.declared.kind.Load.{Load}
 use Rattle.summaries.specs.declared.kind.Both.{Both}

@@ -1,7 +1,7 @@
 -- The latest turn of a line, and the rule by it.
 use Rattle.std.proofs.Common.{◌≡◌, ℕ, suc, ◌-◌, ◌<◌, Bool, true, false, cond, ◌&&◌, eqb, ltb, ◌≢◌, ◌⊎◌, List, [], ◌∷◌, ◌++◌, map, length, take, drop, IfSome, Some, None, Option, sym, refl, ◌∙◌, subst, inl, inr, ⊎_elim, arith, MatchOption}
 use Rattle.std.proofs.lemmas.Bool.{cases_eq, eqb-true, eqb-false, eq-eqb, ne_eqb, cond-false}
-use Rattle.histories.specs.Rule.{fits, raise, at_turn, LastTouch}
+use Rattle.histories.specs.Rule.{fits, raise, at_turn}
 use Rattle.histories.proofs.Index.{at_newest, at_older, Where, where_is, last_older}
 use Rattle.touches.specs.Turns.{latest_turn, Earlier, below, TurnsFound}
 

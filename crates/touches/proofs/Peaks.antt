@@ -1,12 +1,12 @@
 -- The peak and the load of a list of gaps, and gaps that stay low.
-use Rattle.std.proofs.Common.{◌≡◌, ℕ, zero, suc, ◌+◌, ◌-◌, ◌<◌, ◌≤◌, max, Bool, true, ◌&&◌, ltb, ◌⊎◌, List, [], ◌∷◌, length, drop, Some, None, sum, Option, sym, refl, ap, ◌∙◌, subst, ap₂, ⊎_elim, arith}
+use Rattle.std.proofs.Common.{◌≡◌, ℕ, zero, suc, ◌-◌, ◌<◌, ◌≤◌, max, Bool, true, ◌&&◌, ltb, List, [], ◌∷◌, length, drop, Some, None, sum, Option, sym, refl, ap, ◌∙◌, subst, ⊎_elim, arith}
 use Rattle.std.specs.List.{between, ContainsAt as Has, AllByRecursion}
 use Rattle.std.proofs.ByRecursion.{All-weaker}
 use Rattle.std.proofs.lemmas.List.{take_all, length-drop}
 use Rattle.std.proofs.lemmas.List.Sums.{sum_by-cons}
 use Rattle.std.proofs.lemmas.Bool.{ltb-true, and_parts, cases_lt}
 use Rattle.std.proofs.lemmas.Bool.Decides.{nat_tests}
-use Rattle.summaries.specs.Algebra.{Within, summary, ups}
+use Rattle.summaries.specs.Algebra.{Within, summary}
 use Rattle.summaries.specs.Kinds.{higher, peak, load, both}
 use Rattle.summaries.specs.Stretches.{bump}
 use Rattle.summaries.specs.declared.kind.Peak.{Peak}

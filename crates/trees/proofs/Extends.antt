@@ -1,5 +1,5 @@
 -- A tree with a block of gaps more.
-use Rattle.std.proofs.Common.{◌≡◌, ℕ, zero, suc, ◌+◌, ◌-◌, ◌/◌, ◌<◌, ◌≤◌, min, ◌⊎◌, List, [], ◌∷◌, ◌++◌, length, get_or, take, drop, set, sym, refl, ap, ◌∙◌, subst, ap₂, ⊎_elim, append_assoc, append-nil, arith, length-append, length-drop, take-append-drop, length-take}
+use Rattle.std.proofs.Common.{◌≡◌, ℕ, zero, suc, ◌+◌, ◌-◌, ◌/◌, ◌<◌, ◌≤◌, min, List, [], ◌∷◌, ◌++◌, length, get_or, take, drop, set, sym, refl, ap, ◌∙◌, subst, ap₂, ⊎_elim, append_assoc, append-nil, arith, length-append, length-drop, take-append-drop, length-take}
 use Rattle.std.specs.List.{between}
 use Rattle.std.proofs.lemmas.List.{nil_from_length, take_all}
 use Rattle.std.proofs.lemmas.Bool.{cases_lt}
@@ -40,59 +40,59 @@ leaf_fits laws fits fit gs [] h s = let z : ⊥ = omega arith in absurd z
 leaf_fits {K} {a} laws fits fit gs (b ∷ bs) h s = subst fits (laws.right (ups a b a.one)) (fit (b ∷ []) (small_left (b ∷ []) bs (small_right gs (b ∷ bs) s)))
 
 -- the block is cut where the left half is full
-shuffle : (n c : ℕ) (gl gr l-block r-block block : List ℕ) → length gr ≡ n - c → l-block ++ r-block ≡ block → length l-block ≡ min (length block) (c - n)
-    → (gl ++ l-block) ++ (gr ++ r-block) ≡ (gl ++ gr) ++ block
-shuffle n c gl gr l-block r-block block gr_long is cut =
+shuffle : (n c : ℕ) (gl gr l_block r_block block : List ℕ) → length gr ≡ n - c → l_block ++ r_block ≡ block → length l_block ≡ min (length block) (c - n)
+    → (gl ++ l_block) ++ (gr ++ r_block) ≡ (gl ++ gr) ++ block
+shuffle n c gl gr l_block r_block block gr_long is cut =
     ⊎_elim
     (λ h.
     let none = nil_from_length gr (omega arith) in
-    ap (λ g. (gl ++ l-block) ++ (g ++ r-block)) none ∙ append_assoc gl l-block r-block ∙ ap (◌++◌ gl) is ∙ ap (λ g. g ++ block) (sym (append-nil gl) ∙ ap (◌++◌ gl) (sym none)))
+    ap (λ g. (gl ++ l_block) ++ (g ++ r_block)) none ∙ append_assoc gl l_block r_block ∙ ap (◌++◌ gl) is ∙ ap (λ g. g ++ block) (sym (append-nil gl) ∙ ap (◌++◌ gl) (sym none)))
     (λ h.
-    let none = nil_from_length l-block (omega arith) in
-    let rest : r-block ≡ block = ap (λ b. b ++ r-block) (sym none) ∙ is in
+    let none = nil_from_length l_block (omega arith) in
+    let rest : r_block ≡ block = ap (λ b. b ++ r_block) (sym none) ∙ is in
     ap₂ (λ u v. (gl ++ u) ++ (gr ++ v)) none rest ∙ ap (λ g. g ++ (gr ++ block)) (append-nil gl) ∙ sym (append_assoc gl gr block))
     (cases_lt n c)
 
 -- what the two calls ask, and what they give
-pub record Extending {K : Type 0} (a : Algebra K) (fits : K → Type 0) (k j n : ℕ) (xs l r : List (Node K)) (l-block r-block block : List ℕ) : Type 0 where
-  pub left_room : min n (leaves j) + length l-block ≤ leaves j
-  pub right_room : n - leaves j + length r-block ≤ leaves j
-  pub left_small : Small (gaps j (min n (leaves j)) l ++ l-block)
-  pub right_small : Small (gaps j (n - leaves j) r ++ r-block)
-  pub joins : fits (a.join (summary a (gaps j (min n (leaves j)) l ++ l-block)) (summary a (gaps j (n - leaves j) r ++ r-block)))
-  pub sums : a.join (summary a (gaps j (min n (leaves j)) l ++ l-block)) (summary a (gaps j (n - leaves j) r ++ r-block)) ≡ summary a (gaps k n xs ++ block)
+pub record Extending {K : Type 0} (a : Algebra K) (fits : K → Type 0) (k j n : ℕ) (xs l r : List (Node K)) (l_block r_block block : List ℕ) : Type 0 where
+  pub left_room : min n (leaves j) + length l_block ≤ leaves j
+  pub right_room : n - leaves j + length r_block ≤ leaves j
+  pub left_small : Small (gaps j (min n (leaves j)) l ++ l_block)
+  pub right_small : Small (gaps j (n - leaves j) r ++ r_block)
+  pub joins : fits (a.join (summary a (gaps j (min n (leaves j)) l ++ l_block)) (summary a (gaps j (n - leaves j) r ++ r_block)))
+  pub sums : a.join (summary a (gaps j (min n (leaves j)) l ++ l_block)) (summary a (gaps j (n - leaves j) r ++ r_block)) ≡ summary a (gaps k n xs ++ block)
   pub over : (y : Node K) (m w : List (Node K)) → length m ≡ size j → y.pending ≡ 0 → y.value ≡ summary a (gaps k n xs ++ block)
-      → Good a j (min n (leaves j) + length l-block) m → gaps j (min n (leaves j) + length l-block) m ≡ gaps j (min n (leaves j)) l ++ l-block
-      → Good a j (n - leaves j + length r-block) w → gaps j (n - leaves j + length r-block) w ≡ gaps j (n - leaves j) r ++ r-block
+      → Good a j (min n (leaves j) + length l_block) m → gaps j (min n (leaves j) + length l_block) m ≡ gaps j (min n (leaves j)) l ++ l_block
+      → Good a j (n - leaves j + length r_block) w → gaps j (n - leaves j + length r_block) w ≡ gaps j (n - leaves j) r ++ r_block
       → Built a k (n + length block) (y ∷ (m ++ w)) (gaps k n xs ++ block)
 
 pub extending : {K : Type 0} {a : Algebra K} (laws : Laws a) (fits : K → Type 0) (fit : Fit a fits)
-    {k j n : ℕ} {xs : List (Node K)} {x : Node K} {l r : List (Node K)} (p : Parts a k j n xs x l r) → k ≡ suc j → (l-block r-block block : List ℕ) → n + length block ≤ leaves j + leaves j → 0 < length block
-    → l-block ++ r-block ≡ block → length l-block ≡ min (length block) (leaves j - n) → Small (gaps k n xs ++ block)
-    → Extending a fits k j n xs l r l-block r-block block
-extending {K} {a} laws fits fit {k} {j} {n} {xs} {x} {l} {r} p up l-block r-block block room some is cut small =
+    {k j n : ℕ} {xs : List (Node K)} {x : Node K} {l r : List (Node K)} (p : Parts a k j n xs x l r) → k ≡ suc j → (l_block r_block block : List ℕ) → n + length block ≤ leaves j + leaves j → 0 < length block
+    → l_block ++ r_block ≡ block → length l_block ≡ min (length block) (leaves j - n) → Small (gaps k n xs ++ block)
+    → Extending a fits k j n xs l r l_block r_block block
+extending {K} {a} laws fits fit {k} {j} {n} {xs} {x} {l} {r} p up l_block r_block block room some is cut small =
     let c = leaves j in
     let gl = gaps j (min n c) l in
     let gr = gaps j (n - c) r in
     let twice : leaves k ≡ c + c = ap leaves up in
     let gr_long : length gr ≡ n - c = length_gaps j (n - c) r p.right_long (omega arith) in
-    let long : length l-block + length r-block ≡ length block = sym (length-append l-block r-block) ∙ ap length is in
+    let long : length l_block + length r_block ≡ length block = sym (length-append l_block r_block) ∙ ap length is in
     let plain : gaps k n xs ≡ gl ++ gr = p.gaps_are ∙ ap (λ q. lift q (gl ++ gr)) (p.idle (omega arith)) ∙ lift_zero (gl ++ gr) in
-    let all : (gl ++ l-block) ++ (gr ++ r-block) ≡ gaps k n xs ++ block = shuffle n c gl gr l-block r-block block gr_long is cut ∙ ap (λ g. g ++ block) (sym plain) in
-    let both : Small ((gl ++ l-block) ++ (gr ++ r-block)) = subst Small (sym all) small in
-    let sums = sym (summary_append laws (gl ++ l-block) (gr ++ r-block)) ∙ ap (summary a) all in
+    let all : (gl ++ l_block) ++ (gr ++ r_block) ≡ gaps k n xs ++ block = shuffle n c gl gr l_block r_block block gr_long is cut ∙ ap (λ g. g ++ block) (sym plain) in
+    let both : Small ((gl ++ l_block) ++ (gr ++ r_block)) = subst Small (sym all) small in
+    let sums = sym (summary_append laws (gl ++ l_block) (gr ++ r_block)) ∙ ap (summary a) all in
     record {
       left_room = omega arith;
       right_room = omega arith;
-      left_small = small_left (gl ++ l-block) (gr ++ r-block) both;
-      right_small = small_right (gl ++ l-block) (gr ++ r-block) both;
+      left_small = small_left (gl ++ l_block) (gr ++ r_block) both;
+      right_small = small_right (gl ++ l_block) (gr ++ r_block) both;
       joins = subst fits (sym sums) (fit (gaps k n xs ++ block) small);
       sums = sums;
       over = λ y m w e py vy gm em gw ew.
-          let i : min n c + length l-block ≡ min (n + length block) c = omega arith in
-          let o : n - c + length r-block ≡ n + length block - c = omega arith in
+          let i : min n c + length l_block ≡ min (n + length block) c = omega arith in
+          let o : n - c + length r_block ≡ n + length block - c = omega arith in
           let inner : lift y.pending (gaps j (min (n + length block) c) m ++ gaps j (n + length block - c) w) ≡ gaps k n xs ++ block =
-          ap₂ lift py (ap₂ ◌++◌ (ap (λ q. gaps j q m) (sym i) ∙ em) (ap (λ q. gaps j q w) (sym o) ∙ ew)) ∙ lift_zero ((gl ++ l-block) ++ (gr ++ r-block)) ∙ all in
+          ap₂ lift py (ap₂ ◌++◌ (ap (λ q. gaps j q m) (sym i) ∙ em) (ap (λ q. gaps j q w) (sym o) ∙ ew)) ∙ lift_zero ((gl ++ l_block) ++ (gr ++ r_block)) ∙ all in
           let b = built a k j (n + length block) y m w up e (vy ∙ ap (summary a) (sym inner)) (λ h. py) (subst (λ q. Good a j q m) i gm) (subst (λ q. Good a j q w) o gw) in
           record { good = b.good; gaps_are = b.gaps_are ∙ inner };
     }

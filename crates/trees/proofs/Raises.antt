@@ -1,15 +1,14 @@
 -- A tree whose root or halves were raised. Assumes nothing.
-use Rattle.std.proofs.Common.{◌≡◌, ℕ, zero, suc, ◌+◌, ◌-◌, ◌<◌, ◌≤◌, min, List, [], ◌∷◌, ◌++◌, length, get_or, take, drop, set, sym, refl, ap, ◌∙◌, subst, ap₂, subst₂, append-nil, arith}
+use Rattle.std.proofs.Common.{◌≡◌, ℕ, zero, suc, ◌+◌, ◌-◌, ◌<◌, ◌≤◌, min, List, [], ◌∷◌, ◌++◌, length, get_or, take, drop, set, sym, ap, ◌∙◌, subst, ap₂, append-nil, arith}
 use borrow.Rule.Slice.PartMut.{put_mid}
-use Rattle.std.specs.List.{between}
 use Rattle.std.proofs.lemmas.List.{take_at, drop_at, drop_all}
-use Rattle.summaries.specs.Algebra.{Algebra, Laws, Small, Fit, ups, summary}
-use Rattle.summaries.specs.Stretches.{lift, bump}
+use Rattle.summaries.specs.Algebra.{Algebra, Laws, ups, summary}
+use Rattle.summaries.specs.Stretches.{lift}
 use Rattle.trees.specs.Trees.{leaves, size, gaps, Good}
 use Rattle.trees.specs.declared.tree.Node.{Node}
-use Rattle.summaries.proofs.Sums.{summary_append, summary_lift}
+use Rattle.summaries.proofs.Sums.{summary_lift}
 use Rattle.summaries.proofs.Bumps.{lift_lift}
-use Rattle.trees.proofs.Trees.{Parts, length_gaps, fork_gaps}
+use Rattle.trees.proofs.Trees.{fork_gaps}
 
 -- ---- what the slice holds after a write to its left, and then its right, half
 pub put_left : {X : Type 0} (h k : ℕ) (x : X) (l r m : List X) → length l ≡ k → put_mid 1 k (x ∷ (l ++ r)) m ≡ x ∷ (m ++ r)

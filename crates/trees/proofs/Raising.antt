@@ -1,5 +1,5 @@
 -- The steps of `raise`, over what its code has at hand. Assumes nothing.
-use Rattle.std.proofs.Common.{◌≡◌, ℕ, zero, suc, ◌+◌, ◌-◌, ◌/◌, ◌<◌, ◌≤◌, min, ◌≢◌, ◌⊎◌, List, [], ◌∷◌, ◌++◌, length, get_or, take, drop, set, sym, refl, ap, ◌∙◌, subst, ap₂, arith, length-append, length-drop, length-take}
+use Rattle.std.proofs.Common.{◌≡◌, ℕ, zero, suc, ◌+◌, ◌-◌, ◌/◌, ◌<◌, ◌≤◌, min, ◌≢◌, ◌⊎◌, List, [], ◌∷◌, ◌++◌, length, get_or, take, drop, sym, refl, ap, ◌∙◌, subst, ap₂, arith, length-append, length-drop, length-take}
 use borrow.Rule.Slice.PartMut.{put_mid}
 use Rattle.std.specs.List.{between}
 use Rattle.std.proofs.lemmas.List.{drop_at, take_all}
@@ -119,11 +119,11 @@ pub record Whole {K : Type 0} (a : Algebra K) (k n from to : ℕ) (xs : List (No
 
 pub whole : {K : Type 0} {a : Algebra K} (laws : Laws a) (k n from to : ℕ) (xs : List (Node K)) (x : Node K) → length xs ≡ size k → n ≤ leaves k → Good a k n xs → x ≡ get_or xs 0 x
     → from ≡ 0 → length xs / 2 < to → to ≤ n → Small (bump from to (gaps k n xs)) → Whole a k n from to xs x
-whole {K} {a} laws k n from to xs x e room good is zero-from past within small =
+whole {K} {a} laws k n from to xs x e room good is zero_from past within small =
     let sl = size_leaves k in
     let full : leaves k ≤ n = omega arith in
     let long : length (gaps k n xs) ≡ n = length_gaps k n xs e room in
-    let all : bump from to (gaps k n xs) ≡ lift 1 (gaps k n xs) = ap (λ i. bump i to (gaps k n xs)) zero-from ∙ bump_all to (gaps k n xs) (omega arith) in
+    let all : bump from to (gaps k n xs) ≡ lift 1 (gaps k n xs) = ap (λ i. bump i to (gaps k n xs)) zero_from ∙ bump_all to (gaps k n xs) (omega arith) in
     record {
       full = full;
       all = sym all;

@@ -2,7 +2,7 @@
 use Rattle.std.proofs.Common.{◌≡◌, ℕ, zero, suc, ◌+◌, ◌-◌, ◌/◌, ◌<◌, ◌≤◌, min, List, [], ◌∷◌, ◌++◌, length, get_or, take, drop, sym, refl, ap, ◌∙◌, subst, ap₂, subst₂, arith, length-append, length-drop, take-append-drop, length-take}
 use Rattle.std.proofs.lemmas.List.{take_at, drop_at, take_all}
 use Rattle.std.specs.List.{between}
-use Rattle.summaries.specs.Algebra.{Algebra, Laws, summary}
+use Rattle.summaries.specs.Algebra.{Algebra, summary}
 use Rattle.summaries.specs.Stretches.{lift}
 use Rattle.trees.specs.Trees.{leaves, size, gaps, Good}
 use Rattle.trees.specs.declared.tree.Node.{Node}

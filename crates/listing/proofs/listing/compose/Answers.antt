@@ -1,8 +1,6 @@
-use Rattle.std.proofs.Common.{◌≡◌, ◌++◌, Ok, Err, sym, refl, ap, ◌∙◌, subst, inl, inr, arith}
+use Rattle.std.proofs.Common.{◌++◌, Err, sym, ap, ◌∙◌, inr, arith}
 use Rattle.geometry.specs.declared.refusal.Refusal.TheVariants.{FirstLine as WrongFirst}
-use Rattle.notations.specs.Text.{lines}
-use Rattle.listing.specs.Fields.{FirstLine}
-use Rattle.listing.specs.Listing.{first_of, stop}
+use Rattle.listing.specs.Listing.{stop}
 use Rattle.listing.proofs.Firsts.{empty_first}
 use Rattle.listing.proofs.listing.compose.Goals as goal
 

@@ -1,4 +1,4 @@
-use Rattle.std.proofs.Common.{◌≡◌, ℕ, ◌+◌, ◌*◌, ◌^◌, ◌≤◌, List, ◌++◌, length, take, codes, sum}
+use Rattle.std.proofs.Common.{◌≡◌, ◌+◌, ◌*◌, ◌^◌, ◌≤◌, ◌++◌, take, sum}
 use Rattle.listing.specs.Pages.{shown}
 use Rattle.listing.proofs.Tables.{rows_of}
 use Rattle.listing.proofs.listing.write_table.Given as goal

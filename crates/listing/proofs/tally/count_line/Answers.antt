@@ -1,4 +1,4 @@
-use Rattle.std.proofs.Common.{◌≡◌, Ok, Err, sym, refl, ap, ◌∙◌, subst}
+use Rattle.std.proofs.Common.{Ok, ap, ◌∙◌, subst}
 use Rattle.notations.specs.Formats.{grammar_of}
 use Rattle.notations.specs.Grammar.{Means, said}
 use Rattle.listing.proofs.Traces.{line_read}

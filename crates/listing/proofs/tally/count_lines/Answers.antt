@@ -1,4 +1,4 @@
-use Rattle.std.proofs.Common.{◌≡◌, ◌+◌, ◌%◌, ◌^◌, ◌<◌, ◌≤◌, length, get_or, set, sym, refl, ap, ◌∙◌, subst, arith, length-set}
+use Rattle.std.proofs.Common.{◌+◌, ◌^◌, ◌<◌, ◌≤◌, get_or, set, sym, ◌∙◌, subst, arith, length-set}
 use Rattle.listing.proofs.Tallies.{Going, going_more, going_all, going_full}
 use Rattle.listing.proofs.tally.count_lines.Goals as goal
 

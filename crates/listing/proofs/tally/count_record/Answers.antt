@@ -1,4 +1,4 @@
-use Rattle.std.proofs.Common.{◌≡◌, true, false, refl, subst, arith}
+use Rattle.std.proofs.Common.{true, false, refl, subst}
 use Rattle.listing.specs.Touches.{CountedOn}
 use Rattle.listing.proofs.Tallies.{span_ordered, span_bounded, span_lines}
 use Rattle.listing.proofs.tally.count_record.Goals as goal

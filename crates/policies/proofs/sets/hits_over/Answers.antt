@@ -1,4 +1,4 @@
-use Rattle.std.proofs.Common.{◌≡◌, map, drop, ap, ◌∙◌, subst, rules}
+use Rattle.std.proofs.Common.{◌≡◌, map, drop, ap, ◌∙◌, rules}
 use Rattle.replacement.specs.Policy.{found, hits}
 use Rattle.replacement.specs.Sets.{Sets, held_in, next_of}
 use Rattle.policy.specs.Numbers.{line_number}

@@ -1,4 +1,4 @@
-use Rattle.std.proofs.Common.{◌-◌, min, sym, ap, ◌∙◌, subst, ap₂, arith}
+use Rattle.std.proofs.Common.{◌-◌, sym, ap, ◌∙◌, subst, ap₂, arith}
 use Rattle.ranges.proofs.OneList.{asking}
 use Rattle.ranges.proofs.gaps.ask.Goals as goal
 

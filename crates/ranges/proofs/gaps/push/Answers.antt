@@ -1,4 +1,4 @@
-use Rattle.std.proofs.Common.{◌-◌, length, take, drop, set, refl, ap, ◌∙◌, arith}
+use Rattle.std.proofs.Common.{◌-◌, length, take, drop, set, ap, ◌∙◌, arith}
 use Rattle.ranges.proofs.OneList.{pushing}
 use Rattle.ranges.proofs.gaps.push.Goals as goal
 

@@ -1,4 +1,4 @@
-use Rattle.std.proofs.Common.{◌-◌, min, sym, refl, ap, ◌∙◌, subst, ap₂, arith}
+use Rattle.std.proofs.Common.{◌-◌, min, refl, ap, ◌∙◌, arith}
 use Rattle.ranges.proofs.OneList.{lifting}
 use Rattle.ranges.proofs.gaps.raise.Goals as goal
 

@@ -1,6 +1,5 @@
-use Rattle.std.proofs.Common.{◌≡◌, ap, ◌∙◌}
+use Rattle.std.proofs.Common.{ap, ◌∙◌}
 use Rattle.std.specs.List.{between}
-use Rattle.summaries.specs.Algebra.{summary}
 use Rattle.summaries.specs.Kinds.{peak}
 use Rattle.ranges.specs.Occupancies.{occupancies}
 use Rattle.summaries.specs.declared.kind.Peak.{Peak}

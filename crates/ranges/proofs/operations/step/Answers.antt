@@ -1,4 +1,4 @@
-use Rattle.std.proofs.Common.{◌^◌, ◌<◌, ◌≤◌, length, sym, ap, ◌∙◌, inl, inr, arith, pow_mono}
+use Rattle.std.proofs.Common.{◌<◌, sym, ap, ◌∙◌, inl, inr, arith, pow_mono}
 use Rattle.std.specs.List.{between}
 use Rattle.trees.specs.Trees.{leaves}
 use Rattle.summaries.specs.Kinds.{peak}

@@ -1,4 +1,4 @@
-use Rattle.std.proofs.Common.{◌≡◌, ◌+◌, ◌-◌, ◌/◌, ◌<◌, ◌≤◌, min, ◌++◌, length, get_or, set, sym, refl, ap, ◌∙◌, subst, ap₂, arith, rules}
+use Rattle.std.proofs.Common.{◌≡◌, ◌+◌, ◌-◌, ◌/◌, ◌<◌, ◌≤◌, min, length, get_or, set, sym, refl, ap, ◌∙◌, subst, ap₂, arith, rules}
 use borrow.Author.Rules.{scaled_fits≤}
 use Rattle.summaries.specs.Algebra.{summary, ups}
 use Rattle.trees.specs.Trees.{Good, gaps}

@@ -1,4 +1,4 @@
-use Rattle.std.proofs.Common.{◌+◌, sym, refl, ap, ◌∙◌, arith}
+use Rattle.std.proofs.Common.{◌+◌, sym, refl, ap, arith}
 use Rattle.listing.proofs.Splits.{next_field}
 use Rattle.listing.proofs.first.Fields.next_field.Goals as goal
 

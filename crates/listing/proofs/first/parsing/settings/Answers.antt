@@ -1,4 +1,4 @@
-use Rattle.std.proofs.Common.{◌≡◌, Err, sym, refl, ap, ◌∙◌, subst, arith}
+use Rattle.std.proofs.Common.{Err, sym, refl, ap, ◌∙◌, subst}
 use Rattle.std.proofs.lemmas.Result.{err_from_is_err_and}
 use Rattle.listing.specs.Fields.{FormatWord, PolicyWord, Chosen, End, FirstLine}
 use Rattle.listing.proofs.Firsts.{Slots, FromFormat, FromPolicy, right, wrong, slots_right, slots_wrong, three_right, two_right, at_end, too_many}

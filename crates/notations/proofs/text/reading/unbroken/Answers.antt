@@ -1,4 +1,4 @@
-use Rattle.std.proofs.Common.{◌≡◌, ℕ, length, take, subst, arith}
+use Rattle.std.proofs.Common.{◌≡◌, length, take, subst, arith}
 use Rattle.std.specs.List.{AllByRecursion}
 use Rattle.std.proofs.ByRecursion.{All-more}
 use Rattle.notations.proofs.text.reading.unbroken.Goals as goal

@@ -1,11 +1,11 @@
-use Rattle.std.proofs.Common.{◌≡◌, ◌≤◌, length, refl, ap, ◌∙◌, arith}
+use Rattle.std.proofs.Common.{◌≤◌, length, refl, ap, ◌∙◌, arith}
 use Rattle.replacement.specs.Sets.{opened}
 use Rattle.replacement.proofs.Sets.{clear_opened, clear_ready}
 use Rattle.policies.proofs.Memory.{uses}
 use Rattle.policies.proofs.sets.Sets.open.Goals as goal
 
 pub clear-requires : goal.clear-requires
-clear-requires g c = (uses (length c.args.rows.now) c.args.s c.args.ways c.rows_used-sets.result c.rows_used-sets.ensures).long
+clear-requires g c = let u = uses (length c.args.rows.now) c.args.s c.args.ways c.rows_used-sets.result c.rows_used-sets.ensures in omega (arith, u.long)
 
 pub returns : goal.returns
 returns g c =

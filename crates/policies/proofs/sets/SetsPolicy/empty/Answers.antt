@@ -1,4 +1,4 @@
-use Rattle.std.proofs.Common.{◌≡◌, ◌≤◌, length, ap, arith}
+use Rattle.std.proofs.Common.{◌≤◌, length, ap, arith}
 use Rattle.replacement.proofs.Sets.{clear_moves, clear_ready}
 use Rattle.policies.proofs.sets.SetsPolicy.empty.Goals as goal
 

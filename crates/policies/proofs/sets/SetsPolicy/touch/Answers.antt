@@ -1,4 +1,4 @@
-use Rattle.std.proofs.Common.{◌≡◌, ◌-◌, ◌%◌, ◌^◌, ◌<◌, get_or, sym, refl, ap, ◌∙◌, subst, mod-lt, arith}
+use Rattle.std.proofs.Common.{◌≡◌, ◌-◌, ◌%◌, ◌^◌, ◌<◌, get_or, sym, refl, ap, ◌∙◌, subst, arith}
 use lib.Bits.{bit_and, and_mask, mask_lt}
 use Rattle.histories.specs.Rule.{held}
 use Rattle.replacement.proofs.Sets.{idle_moves, idle_misses, ready_set, set_at, moves, drop_set}

@@ -1,4 +1,4 @@
-use Rattle.std.proofs.Common.{◌≡◌, ℕ, length, take, sym, subst, inl, inr}
+use Rattle.std.proofs.Common.{ℕ, take, sym, subst, inl, inr}
 use Rattle.replacement.proofs.Lru.{Chosen, hit_found, hit_moves, hit_stays, miss_moves}
 use Rattle.rows.proofs.lru.LruRowRowRule.touch.Goals as goal
 use Rattle.rows.proofs.lru.LruRowRowRule.touch.Goals.{in-Empty, in-Oldest}

@@ -1,4 +1,4 @@
-use Rattle.std.proofs.Common.{◌≡◌, sym, arith}
+use Rattle.std.proofs.Common.{sym}
 use Rattle.replacement.proofs.Srrip.{hit_found, hit_moves, fill_moves, evict_moves}
 use Rattle.rows.proofs.srrip.SrripRowRowRule.touch.Goals as goal
 

@@ -1,4 +1,4 @@
-use Rattle.std.proofs.Common.{sym, ◌∙◌, subst, arith}
+use Rattle.std.proofs.Common.{sym, subst, arith}
 use Rattle.summaries.specs.Kinds.{load_fits}
 use Rattle.summaries.specs.KindLaws.{load_ups}
 use Rattle.summaries.proofs.kind.LoadKind.raise_by.Goals as goal
