@@ -1,5 +1,5 @@
 // The same operations as crates/ranges_bench, on a plain pre-order lazy tree without the array of recent gaps (mode "tree") and on a
-// bottom-up tree of the usual kind (mode "flat"). rustc -O -o target/ranges_rs bench/ranges.rs; target/ranges_rs MODE HEIGHT ROUNDS REACH
+// bottom-up tree of the usual kind (mode "flat"). mkdir -p target; rustc -O -o target/ranges_rs bench/ranges.rs; target/ranges_rs MODE HEIGHT ROUNDS REACH
 
 #[derive(Clone, Copy, Default)]
 struct Node {
