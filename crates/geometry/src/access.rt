@@ -5,7 +5,7 @@ use crate::refusal::Refusal;
 use crate::shape::Geometry;
 
 // The lines of an access, by their ends: `for n in span.first.0..span.last.0 + 1` goes over them.
-#[derive(Clone, Copy)]
+#[derive(Clone, Copy, PartialEq, Eq, Debug)]
 pub struct LineSpan {
     pub first: LineNumber,
     pub last: LineNumber,
@@ -19,9 +19,7 @@ impl Geometry {
         if size < 1 || size > 256 {
             return Err(Refusal::Size);
         }
-        let Some(end) = address.0.checked_add(size - 1) else {
-            return Err(Refusal::PastMemory);
-        };
+        let end = address.0.checked_add(size - 1).ok_or(Refusal::PastMemory)?;
         Ok(LineSpan {
             first: self.line_of(address),
             last: self.line_of(Address(end)),
@@ -30,8 +28,6 @@ impl Geometry {
 }
 
 // The ends name the lines rightly: they are those in which a byte of the access lies, ascending, once each.
-pub fn lines_are_covered() -> u8
+pub fn lines_are_covered()
     ensures { Covers }
-{
-    0
-}
+{}
