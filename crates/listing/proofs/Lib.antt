@@ -1,4 +1,3 @@
-pub mod Decimals
 pub mod Firsts
 pub mod Pieces
 pub mod Splits

@@ -1,6 +1,6 @@
 use Rattle.std.proofs.Common.{arith, ltb-false, ltb-true}
 use Rattle.listing.proofs.Words.{three, five}
-use Rattle.listing.proofs.first.parsing.policy_of.Goals as goal
+use Rattle.listing.proofs.first.parsing.PolicyNameWord.read.Goals as goal
 
 pub returns-in-lru : goal.returns-in-lru
 returns-in-lru c = three _ 108 114 117 (omega (arith, ltb-false, ltb-true)) (omega arith) (omega arith) (omega arith)
