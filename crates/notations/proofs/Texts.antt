@@ -1,6 +1,7 @@
 -- The first line of a text, and the text from its lines.
 use Rattle.std.proofs.Common.{◌≡◌, ℕ, ◌+◌, ◌-◌, ◌<◌, ◌≤◌, Bool, true, false, cond, eqb, ◌⊎◌, List, [], ◌∷◌, ◌++◌, length, take, drop, sym, refl, ap, ◌∙◌, subst, inl, inr, ⊎_elim, arith, length-drop, take-append-drop, rules, eqb-true}
 use Rattle.std.specs.List.{between, AllByRecursion}
+use Rattle.std.proofs.lemmas.Bool.{cases_lt}
 use Rattle.std.proofs.lemmas.List.{drop_all, drop_more, take_all, take_rest, drop-drop}
 use Rattle.notations.specs.Text.{onto, lines, ended, Rejoins, LongestWithout}
 
@@ -22,31 +23,20 @@ some_last : (l : List ℕ) → 0 < length l → Free l → lines l ≡ l ∷ []
 some_last [] some free = absurd (omega arith)
 some_last (b ∷ l) some free = lines_last b l free
 
-pub first_line : (bs : List ℕ) (n : ℕ) → LongestWithout 10 bs n → n < length bs → lines bs ≡ take n bs ∷ lines (drop (n + 1) bs)
-first_line bs n h low =
+-- a text from its first n bytes, which hold no LF, and the rest
+pub first_line : {bs line end : List ℕ} {n : ℕ} → LongestWithout 10 bs n → line ≡ take n bs → end ≡ drop n bs → 0 < length end → lines bs ≡ line ∷ lines (between 1 (length end) end)
+first_line {bs} {line} {end} {n} h front back more =
+    let low : n < length bs = ⊎_elim (λ low. low) (λ high. let none = ap length (back ∙ drop_all n bs high) in absurd (omega arith)) (cases_lt n (length bs)) in
     let cut : bs ≡ take n bs ++ 10 ∷ drop (n + 1) bs = sym (take-append-drop n bs) ∙ ap (λ r. take n bs ++ r) (drop_more bs n 0 low ∙ ap (λ b. b ∷ drop (n + 1) bs) (h.stops low)) in
-    ap lines cut ∙ lines_ended (take n bs) (drop (n + 1) bs) h.free
+    let rest : between 1 (length end) end ≡ drop (n + 1) bs = take_rest end 1 ∙ ap (drop 1) back ∙ drop-drop 1 n bs in
+    ap lines cut ∙ lines_ended (take n bs) (drop (n + 1) bs) h.free ∙ (λ i. sym front i ∷ lines (sym rest i))
 
-pub last_line : (bs : List ℕ) (n : ℕ) → LongestWithout 10 bs n → length bs ≤ n → 0 < length bs → lines bs ≡ take n bs ∷ []
-last_line bs n h high some =
-    let whole = take_all n bs high in
-    some_last bs some (subst Free whole h.free) ∙ ap (λ l. l ∷ []) (sym whole)
-
--- the next line of a text from `at` on, as the reader cuts it, and what is left
-pub next_line : (text : List ℕ) (at n next : ℕ) → at ≤ length text → (at ≡ length text → ⊥) → LongestWithout 10 (between at (length text) text) n → ((n < length (between at (length text) text)) × (next ≡ at + n + 1)) ⊎ ((length (between at (length text) text) ≤ n) × (next ≡ length text)) → lines (drop at text) ≡ between 0 n (between at (length text) text) ∷ lines (drop next text)
-next_line text at n next low some h way =
-    let rest = between at (length text) text in
-    let is : rest ≡ drop at text = take_rest text at in
-    let long : length rest ≡ length text - at = ap length is ∙ length-drop at text in
-    let zero_off : n - 0 ≡ n = omega arith in
-    let front : take n rest ≡ between 0 n rest = ap (λ k. take k rest) (sym zero_off) in
-    ap lines (sym is) ∙ ⊎_elim
-    (λ w. first_line rest n h w.0 ∙ (λ i. front i ∷ lines (dropped w.1 i)))
-    (λ w. last_line rest n h w.0 (omega arith) ∙ (λ i. front i ∷ lines (sym (drop_all next text (let e = w.1 in omega arith)) i)))
-    way
-  where
-    dropped : next ≡ at + n + 1 → drop (n + 1) (between at (length text) text) ≡ drop next text
-    dropped e = ap (drop (n + 1)) (take_rest text at) ∙ drop-drop (n + 1) at text ∙ (let s : at + (n + 1) ≡ next = omega arith in ap (λ k. drop k text) s)
+pub last_line : {bs line end : List ℕ} {n : ℕ} → LongestWithout 10 bs n → line ≡ take n bs → end ≡ drop n bs → length end < 1 → 0 < length bs → lines bs ≡ line ∷ lines end
+last_line {bs} {line} {end} {n} h front back none some =
+    let room = ap length back ∙ length-drop n bs in
+    let whole : take n bs ≡ bs = take_all n bs (omega arith) in
+    let rest : end ≡ [] = back ∙ drop_all n bs (omega arith) in
+    some_last bs some (subst Free whole h.free) ∙ (λ i. sym (front ∙ whole) i ∷ lines (sym rest i))
 
 -- one byte before the lines of a text
 before : (b : ℕ) (bs : List ℕ) (ls : List (List ℕ)) → (b ≡ 10 → ⊥) → AllByRecursion Free ls → (ended ls ≡ bs) ⊎ (ended ls ≡ bs ++ 10 ∷ []) → AllByRecursion Free (onto b ls) × ((ended (onto b ls) ≡ b ∷ bs) ⊎ (ended (onto b ls) ≡ (b ∷ bs) ++ 10 ∷ []))

@@ -1,12 +1,11 @@
 -- What a line of text means, for any notation: it is skipped, a record, or refused with a cause at a column.
-use Rattle.std.specs.Prelude.{◌≡◌, ℕ, ◌+◌, ◌<◌, ◌≤◌, ◌⊎◌, List, ◌++◌, length, take, Ok, Err, Result}
+use Rattle.std.specs.Prelude.{◌≡◌, ℕ, ◌+◌, ◌<◌, ◌≤◌, ◌⊎◌, List, ◌++◌, length, take, Some, None, Ok, Err, Option, Result}
 use Rattle.geometry.specs.Lines.{Sized, Within}
 use Rattle.geometry.specs.declared.refusal.Refusal.{Refusal}
 use Rattle.geometry.specs.declared.refusal.Refusal.TheVariants.{UnknownKind, Misfit, Size, PastMemory}
 use Rattle.notations.specs.declared.fault.LineFault.{LineFault}
 use Rattle.notations.specs.declared.line.Kind.{Kind}
-use Rattle.notations.specs.declared.line.Meaning.{Meaning}
-use Rattle.notations.specs.declared.line.Meaning.TheVariants.{Skipped, Read}
+use Rattle.notations.specs.declared.line.Record.{Record}
 
 -- what a record says: the digits of its address stand in the line from `column` on
 pub record Reading : Type 0 where
@@ -54,9 +53,9 @@ Means G line (told t) = (G.skips line → ⊥) × G.records line t × Sized t.si
 Means G line (refused cause column) = (G.skips line → ⊥) × Refuses G line cause column
 
 -- what the answer of a reader says
-abbrev pub said : Result Meaning LineFault → Said
-said (Ok Skipped) = skipped
-said (Ok (Read r)) = told (record { kind = r.kind; address = r.address.0; size = r.size; digits = r.digits.now; column = r.column })
+abbrev pub said : Result (Option Record) LineFault → Said
+said (Ok None) = skipped
+said (Ok (Some r)) = told (record { kind = r.kind; address = r.address.0; size = r.size; digits = r.digits.now; column = r.column })
 said (Err f) = refused f.cause f.column
 
 -- a line has one meaning at most

@@ -3,14 +3,14 @@ ghost use Rattle.notations.specs.Din.{din, label};
 ghost use Rattle.notations.specs.DinMeans.{din_one};
 
 use crate::fault::LineFault;
-use crate::line::{Kind, Meaning, Record};
+use crate::line::{Kind, Record};
 use crate::notation::Notation;
 use crate::scan::{Numeral, figures, indent, stops};
 use geometry::numbers::Address;
 use geometry::refusal::Refusal;
 
 // Dinero's din: a label, an address, and what else the line may hold.
-#[derive(Clone, Copy)]
+#[derive(Clone, Copy, PartialEq, Eq, Debug)]
 pub struct Din;
 
 // The kind that a label names.
@@ -30,10 +30,10 @@ impl Notation for Din {
 
     ghost one = { λ x. din_one };
 
-    fn read<'t>(&self, line: &'t [u8]) -> Result<Meaning<'t>, LineFault> {
+    fn read<'t>(&self, line: &'t [u8]) -> Result<Option<Record<'t>>, LineFault> {
         let before = indent(line);
         if before == line.len() {
-            return Ok(Meaning::Skipped);
+            return Ok(None);
         }
         let Some(kind) = kind_of(line[before]) else {
             return Err(LineFault {
@@ -58,7 +58,7 @@ impl Notation for Din {
                 column: column + count,
             });
         }
-        Ok(Meaning::Read(Record {
+        Ok(Some(Record {
             kind,
             address: Address(value),
             size: 1,

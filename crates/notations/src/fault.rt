@@ -4,14 +4,14 @@ ghost use Rattle.notations.specs.Layers.{paired};
 use geometry::refusal::Refusal;
 
 // A line was refused: why, and at which column, from 1.
-#[derive(Clone, Copy)]
+#[derive(Clone, Copy, PartialEq, Eq, Debug)]
 pub struct LineFault {
     pub cause: Refusal,
     pub column: usize,
 }
 
 // A text was refused: the fault of one of its lines, kept whole, and that line's number, from 1.
-#[derive(Clone, Copy)]
+#[derive(Clone, Copy, PartialEq, Eq, Debug)]
 pub struct TextFault {
     pub fault: LineFault,
     pub line: usize,
@@ -38,9 +38,6 @@ impl<T: Drop, E: Drop, K: Drop> Beside<T, E, K> for Result<T, E> {
     ghost besides = { λ s k r. r ≡ paired s k };
 
     fn beside(self, known: K) -> Result<T, (E, K)> {
-        match self {
-            Ok(x) => Ok(x),
-            Err(e) => Err((e, known)),
-        }
+        self.map_err(|e| (e, known))
     }
 }

@@ -6,11 +6,11 @@ ghost use Rattle.notations.specs.LackeyMeans.{lackey_one};
 use crate::din::Din;
 use crate::fault::LineFault;
 use crate::lackey::Lackey;
-use crate::line::Meaning;
+use crate::line::Record;
 use crate::notation::Notation;
 
 // One of the notations, chosen at run time.
-#[derive(Clone, Copy)]
+#[derive(Clone, Copy, PartialEq, Eq, Debug)]
 pub enum Format {
     Din,
     Lackey,
@@ -21,7 +21,7 @@ impl Notation for Format {
 
     ghost one = { elim [ Din ↦ din_one | Lackey ↦ lackey_one ] };
 
-    fn read<'t>(&self, line: &'t [u8]) -> Result<Meaning<'t>, LineFault> {
+    fn read<'t>(&self, line: &'t [u8]) -> Result<Option<Record<'t>>, LineFault> {
         match self {
             Format::Din => Din.read(line),
             Format::Lackey => Lackey.read(line),

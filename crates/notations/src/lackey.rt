@@ -6,14 +6,14 @@ ghost use Rattle.std.specs.List.{AllByRecursion};
 ghost use Rattle.notations.specs.LackeyMeans.{lackey_one};
 
 use crate::fault::LineFault;
-use crate::line::{Kind, Meaning, Record};
+use crate::line::{Kind, Record};
 use crate::notation::Notation;
 use crate::scan::{Numeral, figures, indent};
 use geometry::numbers::Address;
 use geometry::refusal::Refusal;
 
 // The trace that Valgrind's tool Lackey prints under `--trace-mem=yes`.
-#[derive(Clone, Copy)]
+#[derive(Clone, Copy, PartialEq, Eq, Debug)]
 pub struct Lackey;
 
 // The column at which a record's address begins, past its kind.
@@ -24,7 +24,7 @@ impl Notation for Lackey {
 
     ghost one = { λ x. lackey_one };
 
-    fn read<'t>(&self, line: &'t [u8]) -> Result<Meaning<'t>, LineFault> {
+    fn read<'t>(&self, line: &'t [u8]) -> Result<Option<Record<'t>>, LineFault> {
         match opening(line) {
             Some(Opened { kind, rest }) => access(kind, rest),
             None => unopened(line),
@@ -67,7 +67,7 @@ fn opening<'t>(line: &'t [u8]) -> Option<Opened<'t>>
 }
 
 // The rest of a line after its kind: the address, a comma, the size, the end.
-fn access<'t>(kind: Kind, rest: &'t [u8]) -> Result<Meaning<'t>, LineFault>
+fn access<'t>(kind: Kind, rest: &'t [u8]) -> Result<Option<Record<'t>>, LineFault>
     ensures { Means lackey (prefix kind ++ rest.now) (said result) }
 {
     let Numeral { count, value } = figures(rest, 16, 16);
@@ -103,7 +103,7 @@ fn access<'t>(kind: Kind, rest: &'t [u8]) -> Result<Meaning<'t>, LineFault>
             column: ADDRESS,
         });
     }
-    Ok(Meaning::Read(Record {
+    Ok(Some(Record {
         kind,
         address: Address(value),
         size: size.value,
@@ -122,12 +122,12 @@ fn after_comma<'t>(bytes: &'t [u8]) -> Option<&'t [u8]>
 }
 
 // A line that no kind opens is skipped, or refused for the first byte that could not open one.
-fn unopened<'t>(line: &'t [u8]) -> Result<Meaning<'t>, LineFault>
+fn unopened<'t>(line: &'t [u8]) -> Result<Option<Record<'t>>, LineFault>
     requires { Unopened line.now }
     ensures { Means lackey line.now (said result) }
 {
     if indent(line) == line.len() || is_comment(line) {
-        return Ok(Meaning::Skipped);
+        return Ok(None);
     }
     Err(opening_fault(line))
 }

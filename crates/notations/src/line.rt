@@ -1,7 +1,7 @@
 use geometry::numbers::Address;
 
 // What an access does.
-#[derive(Clone, Copy)]
+#[derive(Clone, Copy, PartialEq, Eq, Debug)]
 pub enum Kind {
     Fetch,
     Load,
@@ -10,18 +10,11 @@ pub enum Kind {
 }
 
 // An access that a line records. The address's digits are a part of the text, from `column` of their line on.
-#[derive(Clone, Copy)]
+#[derive(Clone, Copy, PartialEq, Eq, Debug)]
 pub struct Record<'t> {
     pub kind: Kind,
     pub address: Address,
     pub size: u64,
     pub digits: &'t [u8],
     pub column: usize,
-}
-
-// What a line that is not refused means.
-#[derive(Clone, Copy)]
-pub enum Meaning<'t> {
-    Skipped,
-    Read(Record<'t>),
 }

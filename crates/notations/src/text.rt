@@ -1,13 +1,11 @@
-ghost use Rattle.std.specs.Prelude.{◌≤◌, length};
+ghost use Rattle.std.specs.Prelude.{◌+◌, ◌^◌, ◌<◌, length};
 
 pub mod reading;
 
-// The lines of a text that is lent, one after another. `number` is that of the line given last, from 1.
+// The lines of a text that is lent, one after another, from the first that is not given yet. `number` is that of the line given last, from 1.
 #[derive(Drop)]
 pub struct Lines<'t> {
-    text: &'t [u8],
-    at: usize,
+    rest: &'t [u8],
     number: usize,
-    ghost within: { at ≤ length text.now },
-    ghost counted: { number ≤ at },
+    ghost counted: { number + length rest.now < 2 ^ 64 },
 }

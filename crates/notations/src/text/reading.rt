@@ -1,5 +1,6 @@
-ghost use Rattle.std.specs.Prelude.{◌≡◌, ◌+◌, ◌-◌, ◌<◌, ◌≤◌, [], ◌∷◌, length, MatchOption};
-ghost use Rattle.notations.specs.Left.{left};
+ghost use Rattle.std.specs.Prelude.{◌≡◌, ◌+◌, ◌<◌, ◌≤◌, [], ◌∷◌, length, IfSome, MatchOption};
+ghost use Rattle.std.specs.Iterator.{item_count};
+ghost use Rattle.notations.specs.Left.{left, GivesLine};
 ghost use Rattle.notations.specs.Text.{lines, Rejoins, LongestWithout};
 
 use crate::text::Lines;
@@ -10,31 +11,9 @@ impl<'t> Lines<'t> {
         ensures number { result.number ≡ 0 }
     {
         Lines {
-            text,
-            at: 0,
+            rest: text,
             number: 0,
         }
-    }
-
-    // The next line, without its LF.
-    pub fn next_line(&mut self) -> Option<&'t [u8]>
-        ensures line { MatchOption result (left self.old ≡ []) (λ l. left self.old ≡ l.now ∷ left self.new) }
-        ensures number { MatchOption result (self.new ≡ self.old) (λ _. self.new.number ≡ self.old.number + 1) }
-    {
-        let text = self.text;
-        let start = self.at;
-        if start == text.len() {
-            return None;
-        }
-        let rest = &text[start..];
-        let length = unbroken(rest, b'\n');
-        self.at = if length < rest.len() {
-            start + length + 1
-        } else {
-            text.len()
-        };
-        self.number += 1;
-        Some(&rest[0..length])
     }
 
     // The number of the line given last.
@@ -45,21 +24,49 @@ impl<'t> Lines<'t> {
     }
 }
 
+// Each line comes without its LF.
+impl<'t> Iterator for Lines<'t> {
+    type Item = &'t [u8];
+
+    ghost next_gives = { GivesLine };
+
+    ghost remaining = { item_count left };
+
+    fn next(&mut self) -> Option<&'t [u8]> {
+        let (line, rest) = split_line(self.rest)?;
+        self.rest = rest;
+        self.number += 1;
+        Some(line)
+    }
+}
+
+// The first line of a text, without its LF, and what follows it.
+fn split_line<'t>(text: &'t [u8]) -> Option<(&'t [u8], &'t [u8])>
+    ensures line { MatchOption result (lines text.now ≡ []) (λ cut. lines text.now ≡ cut.0.now ∷ lines cut.1.now) }
+    ensures shorter { IfSome result (λ cut. length cut.1.now < length text.now) }
+{
+    if text.is_empty() {
+        return None;
+    }
+    let (line, end) = text.split_at(unbroken(text, b'\n'));
+    match end {
+        [_, rest @ ..] => Some((line, rest)),
+        [] => Some((line, end)),
+    }
+}
+
 // How many bytes come before the first `stop`, or before the end.
 pub fn unbroken(bytes: &[u8], stop: u8) -> usize
     ensures { LongestWithout stop bytes.now result }
 {
-    for (i, byte) in bytes.iter().enumerate() {
-        if *byte == stop {
-            return i;
-        }
-    }
-    bytes.len()
+    bytes
+        .iter()
+        .position(|byte| *byte == stop)
+        .unwrap_or(bytes.len())
 }
 
 // Lines are cut rightly: no line holds an LF, and with their LFs they are the text again.
-pub fn lines_rejoin() -> u8
+#[tactic(auto, using(crate::proofs::Texts::rejoins))]
+pub fn lines_rejoin()
     ensures { Rejoins }
-{
-    0
-}
+{}
