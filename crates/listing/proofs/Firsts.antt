@@ -1,5 +1,5 @@
 -- The first line, field after field: what is still to come gives the whole.
-use Rattle.std.proofs.Common.{◌≡◌, ℕ, ◌+◌, ◌-◌, ◌<◌, ◌≤◌, List, [], length, Ok, Err, Result, sym, refl, ap, ◌∙◌, subst, inl, inr, ⊎_elim, arith}
+use Rattle.std.proofs.Common.{◌≡◌, ℕ, ◌+◌, ◌-◌, ◌≤◌, List, [], length, Ok, Err, Result, sym, refl, ap, ◌∙◌, subst, inl, inr, ⊎_elim, arith}
 use Rattle.notations.specs.declared.format.Format.{Format}
 use Rattle.listing.specs.Fields.{awaited, fields, Between, FormatWord, PolicyWord, Got, Ended, Next, End, Chosen, FirstLine}
 use Rattle.listing.specs.declared.first.Fields.{Fields}

@@ -4,4 +4,3 @@ pub mod Splits
 pub mod Tables
 pub mod Tallies
 pub mod Traces
-pub mod Words

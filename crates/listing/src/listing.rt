@@ -9,7 +9,7 @@ ghost use Rattle.listing.specs.Trace.{ending};
 use crate::first::Settings;
 use crate::first::parsing::settings;
 use crate::page::{Page, push_number};
-use crate::tally::count_trace;
+use crate::tally::Tally;
 use geometry::refusal::Refusal;
 use notations::fault::{LineFault, TextFault};
 use notations::text::Lines;
@@ -74,9 +74,9 @@ fn list_trace(settings: &Settings, lines: &mut Lines, page: &mut Page) -> Result
 {
     let sets = settings.geometry.sets() as usize;
     let mut counts = [0u32; SETS];
-    let counts = &mut counts[0..sets];
-    let end = count_trace(settings, 1 << settings.k, lines, counts);
-    write_table(page, counts);
+    let mut tally = Tally::new(*settings, &mut counts[..sets]);
+    let end = tally.count_trace(lines);
+    write_table(page, tally.counts());
     end
 }
 
@@ -100,7 +100,9 @@ fn list_input(input: &[u8], page: &mut Page) -> Result<(), TextFault>
         return Err(refused(Refusal::Input, 0, 0));
     }
     let mut lines = Lines::new(input);
-    let first = lines.next_line().ok_or(refused(Refusal::FirstLine, 1, 1))?;
+    let Some(first) = lines.next() else {
+        return Err(refused(Refusal::FirstLine, 1, 1));
+    };
     match settings(first) {
         Ok(settings) => list_trace(&settings, &mut lines, page),
         Err(column) => Err(refused(Refusal::FirstLine, 1, column)),

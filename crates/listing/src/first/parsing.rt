@@ -21,15 +21,10 @@ impl<'t> Fields<'t> {
         ensures line { self.new.line.now ≡ self.old.line.now }
         ensures field { MatchOption result ((awaited self.old ≡ []) × (self.new.at ≡ self.old.at)) (λ f. (awaited self.old ≡ f.now ∷ awaited self.new) × (self.new.at ≡ self.old.at + length f.now + 1)) }
     {
-        let line = self.line;
-        let at = self.at;
-        if at > line.len() {
-            return None;
-        }
-        let rest = &line[at..];
+        let rest = self.line.get(self.at..)?;
         let length = unbroken(rest, b' ');
-        self.at = at + length + 1;
-        Some(&rest[0..length])
+        self.at += length + 1;
+        Some(&rest[..length])
     }
 
     // The next field, which is to be a word for some value; else the column of the fault.

@@ -1,0 +1,12 @@
+use Rattle.std.proofs.Common.{◌^◌, ◌≤◌, [], sym, subst, arith, pow_mono}
+use Rattle.listing.specs.Touches.{Counted}
+use Rattle.listing.proofs.Tables.{listed}
+use Rattle.listing.proofs.Tallies.{none_counted}
+use Rattle.listing.proofs.listing.list_trace.Goals as goal
+
+pub returns-clause-bytes : goal.returns-clause-bytes
+returns-clause-bytes c =
+    let x = c.args.settings.now in
+    let sets : 2 ^ x.geometry.s ≤ 2 ^ 7 = pow_mono {j = 7} (omega (arith, x.few)) in
+    let start = subst (λ counts. Counted x.geometry.s counts []) (sym c.new-tally.ensures.counts) (none_counted _ _ 128 c.sets-sets.ensures (omega (arith, c.sets-sets.ensures))) in
+    listed _ x _ _ _ _ _ _ c.count_trace-end.result c.new-tally.ensures.settings c.requires.1 c.requires.0 start c.count_trace-end.ensures.counted (λ taken counted. c.write_table.ensures.bytes x.geometry.s taken (subst (λ counts. Counted x.geometry.s counts taken) (sym c.counts.ensures) counted))
