@@ -14,6 +14,9 @@ use geometry::refusal::Refusal;
 use notations::fault::{LineFault, TextFault};
 use notations::text::Lines;
 
+// An output of so many bytes has room for any listing.
+pub const ROOM: usize = 8192;
+
 // The longest input that is taken, in bytes.
 const LONGEST: usize = 16384;
 

@@ -1,11 +1,9 @@
 ghost use Rattle.std.specs.Prelude.{◌≡◌, ◌+◌, ◌≤◌, ◌++◌, decimal};
 ghost use Rattle.arrayvec.specs.ArrayString.{array_string_len};
 
+use crate::listing::ROOM;
 use arrayvec::ArrayString;
 use itoa::Buffer;
-
-// How many bytes a page can hold: more than any listing has.
-pub(crate) const ROOM: usize = 8192;
 
 // The text that is being made, before it is known whether it fits where it is to go.
 pub(crate) type Page = ArrayString<ROOM>;
