@@ -17,10 +17,10 @@ pub struct Din;
 fn kind_of(byte: u8) -> Option<Kind>
     ensures { MatchOption result ((k : Kind) → label k ≢ Known byte) (λ k. label k ≡ Known byte) }
 {
-    match byte as char {
-        '0' => Some(Kind::Load),
-        '1' => Some(Kind::Store),
-        '2' => Some(Kind::Fetch),
+    match byte {
+        b'0' => Some(Kind::Load),
+        b'1' => Some(Kind::Store),
+        b'2' => Some(Kind::Fetch),
         _ => None,
     }
 }

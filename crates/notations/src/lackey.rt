@@ -33,7 +33,7 @@ impl Notation for Lackey {
 }
 
 // The kind of a line that its first three bytes tell, and the bytes after them.
-fn opening<'t>(line: &'t [u8]) -> Option<(Kind, &'t [u8])>
+fn opening(line: &[u8]) -> Option<(Kind, &[u8])>
     ensures { MatchOption result (Unopened line.now) (λ opened. line.now ≡ prefix opened.0 ++ opened.1.now) }
 {
     match line {
@@ -46,7 +46,7 @@ fn opening<'t>(line: &'t [u8]) -> Option<(Kind, &'t [u8])>
 }
 
 // The rest of a line after its kind: the address, a comma, the size, the end.
-fn access<'t>(kind: Kind, rest: &'t [u8]) -> Result<Option<Record<'t>>, LineFault>
+fn access(kind: Kind, rest: &[u8]) -> Result<Option<Record<'_>>, LineFault>
     ensures { Means lackey (prefix kind ++ rest.now) (said result) }
 {
     let Numeral { count, value } = figures(rest, 16, 16);
@@ -78,7 +78,8 @@ fn access<'t>(kind: Kind, rest: &'t [u8]) -> Result<Option<Record<'t>>, LineFaul
 }
 
 // A line that no kind opens is skipped, or refused for the first byte that could not open one.
-fn unopened<'t>(line: &'t [u8]) -> Result<Option<Record<'t>>, LineFault>
+#[tactic(auto, using(crate::specs::LackeyMeans::blank_skips, crate::specs::LackeyMeans::comment_skips, crate::specs::LackeyMeans::solid_line))]
+fn unopened(line: &[u8]) -> Result<Option<Record<'_>>, LineFault>
     requires { Unopened line.now }
     ensures { Means lackey line.now (said result) }
 {
@@ -95,7 +96,8 @@ fn is_comment(line: &[u8]) -> bool
 }
 
 fn opening_fault(line: &[u8]) -> LineFault
-    requires { Unopened line.now × (AllByRecursion Blank line.now → ⊥) }
+    requires unopened { Unopened line.now }
+    requires solid { AllByRecursion Blank line.now → ⊥ }
     ensures { Refuses lackey line.now result.cause result.column }
 {
     match line {
