@@ -16,7 +16,7 @@ impl Geometry {
     pub fn span(self, address: Address, size: u64) -> Result<LineSpan, Refusal>
         ensures { Spans self.b address.0 size result }
     {
-        if size < 1 || size > 256 {
+        if !(1..=256).contains(&size) {
             return Err(Refusal::Size);
         }
         let end = address.0.checked_add(size - 1).ok_or(Refusal::PastMemory)?;

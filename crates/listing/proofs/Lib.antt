@@ -1,8 +1,6 @@
-pub mod Decimals
 pub mod Firsts
 pub mod Pieces
 pub mod Splits
 pub mod Tables
 pub mod Tallies
 pub mod Traces
-pub mod Words

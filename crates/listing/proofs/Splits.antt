@@ -1,7 +1,7 @@
 -- The first field of a line, and what is left.
 use Rattle.std.proofs.Common.{◌≡◌, ℕ, ◌+◌, ◌-◌, ◌<◌, ◌≤◌, Bool, true, false, cond, eqb, leb, List, [], ◌∷◌, ◌++◌, length, take, drop, sym, refl, ap, ◌∙◌, subst, ⊎_elim, arith, length-drop, take-append-drop, rules}
-use Rattle.std.specs.List.{between, AllByRecursion}
-use Rattle.std.proofs.lemmas.List.{drop_more, take_all, take_rest, drop-drop, length-take-le}
+use Rattle.std.specs.List.{AllByRecursion}
+use Rattle.std.proofs.lemmas.List.{drop_more, take_all, drop-drop, length-take-le}
 use Rattle.std.proofs.lemmas.Bool.{cases_lt}
 use Rattle.notations.specs.Text.{onto, LongestWithout}
 use Rattle.listing.specs.Fields.{fields, from}
@@ -26,36 +26,29 @@ at_most m n h = search rules
 over : (m n : ℕ) → n < m → leb m n ≡ false
 over m n h = search rules
 
-pub from_start : (line : List ℕ) → from line 0 ≡ fields line
-from_start line = rw (at_most 0 (length line) (omega arith))
-
 pub from_past : (line : List ℕ) (at : ℕ) → length line < at → from line at ≡ []
 from_past line at h = rw (over at (length line) h)
 
 pub record Cut (line : List ℕ) (at n : ℕ) (f : List ℕ) : Type 0 where
-  pub field : from line at ≡ f ∷ from line (at + n + 1)
+  pub field : from line at ≡ f ∷ from line (at + (n + 1))
   pub long : length f ≡ n
 
-pub next_field : (line : List ℕ) (at n : ℕ) → at ≤ length line → LongestWithout 32 (between at (length line) line) n → Cut line at n (between 0 n (between at (length line) line))
-next_field line at n low h =
-    let rest = between at (length line) line in
-    let is : rest ≡ drop at line = take_rest line at in
+pub next_field : (line rest : List ℕ) (at n : ℕ) → at ≤ length line → rest ≡ drop at line → LongestWithout 32 rest n → Cut line at n (take n rest)
+next_field line rest at n low is h =
     let long : length rest ≡ length line - at = ap length is ∙ length-drop at line in
-    let zero_off : n - 0 ≡ n = omega arith in
-    let front : take n rest ≡ between 0 n rest = ap (λ k. take k rest) (sym zero_off) in
     let here : from line at ≡ fields rest = rw (at_most at (length line) low) (ap fields (sym is)) in
     record {
       field = here ∙ ⊎_elim
           (λ (inside : n < length rest).
           let cut : rest ≡ take n rest ++ 32 ∷ drop (n + 1) rest = sym (take-append-drop n rest) ∙ ap (λ r. take n rest ++ r) (drop_more rest n 0 inside ∙ ap (λ b. b ∷ drop (n + 1) rest) (h.stops inside)) in
-          let sum : at + (n + 1) ≡ at + n + 1 = omega arith in
-          let next : fields (drop (n + 1) rest) ≡ from line (at + n + 1) = ap (λ r. fields (drop (n + 1) r)) is ∙ ap fields (drop-drop (n + 1) at line ∙ ap (λ k. drop k line) sum) ∙ sym (there (at + n + 1) (omega arith)) in
-          ap fields cut ∙ fields_ended (take n rest) (drop (n + 1) rest) h.free ∙ (λ i. front i ∷ next i))
+          let sum : at + (n + 1) ≡ n + 1 + at = omega arith in
+          let next : fields (drop (n + 1) rest) ≡ from line (at + (n + 1)) = ap (λ r. fields (drop (n + 1) r)) is ∙ ap fields (drop-drop (n + 1) at line) ∙ sym (there (at + (n + 1)) (omega arith)) in
+          ap fields cut ∙ fields_ended (take n rest) (drop (n + 1) rest) h.free ∙ ap (λ fs. take n rest ∷ fs) next)
           (λ (end : length rest ≤ n).
           let whole = take_all n rest end in
-          fields_last rest (subst Free whole h.free) ∙ (λ i. (sym whole ∙ front) i ∷ sym (from_past line (at + n + 1) (omega arith)) i))
+          fields_last rest (subst Free whole h.free) ∙ (λ i. sym whole i ∷ sym (from_past line (at + (n + 1)) (omega arith)) i))
           (cases_lt n (length rest));
-      long = ap length (sym front) ∙ length-take-le n rest h.within;
+      long = length-take-le n rest h.within;
     }
   where
     there : (k : ℕ) → k ≤ length line → from line k ≡ fields (drop k line)

@@ -1,14 +1,14 @@
 -- The lines of the sets, one after another.
-use Rattle.std.proofs.Common.{◌≡◌, ℕ, zero, suc, ◌+◌, ◌^◌, ◌<◌, ◌≤◌, List, [], ◌∷◌, ◌++◌, length, get_or, take, Ok, Err, codes, decimal, sum, sym, refl, ap, ◌∙◌, subst, append_assoc, append-nil, arith}
+use Rattle.std.proofs.Common.{◌≡◌, ℕ, zero, suc, ◌+◌, ◌^◌, ◌<◌, ◌≤◌, List, [], ◌∷◌, ◌++◌, length, get_or, take, Result, codes, decimal, sum, sym, refl, ap, ◌∙◌, subst, append_assoc, arith}
 use Rattle.std.specs.List.{flat_map}
 use Rattle.std.proofs.lemmas.List.{take_all, flat_map_more}
 use Rattle.geometry.specs.Lines.{upward}
 use Rattle.notations.specs.Formats.{grammar_of}
 use Rattle.notations.specs.declared.fault.TextFault.{TextFault}
 use Rattle.listing.specs.Counting.{TraceCounted}
-use Rattle.listing.specs.Listing.{row_of, set_line, table, stop, Listed}
+use Rattle.listing.specs.Listing.{row_of, set_line, table, closing, Listed}
 use Rattle.listing.specs.Touches.{Counted}
-use Rattle.listing.specs.Trace.{whole, ending, Traced}
+use Rattle.listing.specs.Trace.{ending, Traced}
 use Rattle.listing.specs.declared.first.Settings.{Settings}
 use Rattle.listing.proofs.Pieces.{three_pieces}
 use Rattle.listing.proofs.Tallies.{upward_split}
@@ -43,11 +43,9 @@ whole_table s counts taken start p q r t n all h end total hp hq hr ht =
     ∙ ap (λ x. x ++ last) (append_assoc start (codes "set touches\n") (flat_map (set_line s taken) (upward 0 (2 ^ s))))
     ∙ append_assoc start (codes "set touches\n" ++ flat_map (set_line s taken) (upward 0 (2 ^ s))) last
 
--- the listing of a trace that ended, and of one that was stopped
-pub listed_whole : (x : Settings) (ls : List (List ℕ)) (counts page text : List ℕ) (n : ℕ) → n ≡ 1 → page ≡ [] → TraceCounted x x.k [] ls (n + 1) (Ok tt) counts → ((taken : List ℕ) → Counted x.geometry.s counts taken → text ≡ page ++ table x.geometry.s taken) → Listed x ls text
-listed_whole x ls counts page text n one none t shows =
-    (t.0, whole, subst (λ m. Traced (grammar_of x.format) x.geometry.b x.geometry.s x.k ls m [] t.0 whole) (let e : n + 1 ≡ 2 = omega arith in e) t.1, shows t.0 t.2 ∙ ap (λ p. p ++ table x.geometry.s t.0) none ∙ sym (append-nil (table x.geometry.s t.0)))
-
-pub listed_stopped : (x : Settings) (ls : List (List ℕ)) (counts page text out : List ℕ) (n : ℕ) (f : TextFault) → n ≡ 1 → page ≡ [] → TraceCounted x x.k [] ls (n + 1) (Err f) counts → ((taken : List ℕ) → Counted x.geometry.s counts taken → text ≡ page ++ table x.geometry.s taken) → out ≡ text ++ stop f.fault.cause f.line f.fault.column → Listed x ls out
-listed_stopped x ls counts page text out n f one none t shows last =
-    (t.0, ending (Err f), subst (λ m. Traced (grammar_of x.format) x.geometry.b x.geometry.s x.k ls m [] t.0 (ending (Err f))) (let e : n + 1 ≡ 2 = omega arith in e) t.1, last ∙ ap (λ p. p ++ stop f.fault.cause f.line f.fault.column) (shows t.0 t.2 ∙ ap (λ p. p ++ table x.geometry.s t.0) none))
+-- the listing of a trace, whether it ended or was stopped
+pub listed : (y x : Settings) (ls : List (List ℕ)) (n : ℕ) (before after page text : List ℕ) (r : Result (Unit {0}) TextFault) → y ≡ x → n ≡ 1 → page ≡ [] → Counted x.geometry.s before [] → ((taken : List ℕ) → Counted y.geometry.s before taken → TraceCounted y y.k taken ls (n + 1) r after) → ((taken : List ℕ) → Counted x.geometry.s after taken → text ≡ page ++ table x.geometry.s taken) → Listed x ls (text ++ closing (ending r))
+listed y x ls n before after page text r same one none start h shows =
+    let t : TraceCounted x x.k [] ls (n + 1) r after = subst (λ (z : Settings). (taken : List ℕ) → Counted z.geometry.s before taken → TraceCounted z z.k taken ls (n + 1) r after) same h [] start in
+    let second : n + 1 ≡ 2 = omega arith in
+    (t.0, ending r, subst (λ m. Traced (grammar_of x.format) x.geometry.b x.geometry.s x.k ls m [] t.0 (ending r)) second t.1, ap (λ p. p ++ closing (ending r)) (shows t.0 t.2 ∙ ap (λ p. p ++ table x.geometry.s t.0) none))

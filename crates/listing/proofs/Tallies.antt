@@ -1,11 +1,14 @@
 -- One more touch, and the lines of an access one after another.
-use Rattle.std.proofs.Common.{◌≡◌, ℕ, zero, suc, ◌+◌, ◌-◌, ◌*◌, ◌/◌, ◌%◌, ◌^◌, ◌<◌, ◌≤◌, true, false, eqb, ◌⊎◌, List, [], ◌∷◌, ◌++◌, length, get_or, take, set, replicate, sum, sym, refl, ap, ◌∙◌, subst, inl, inr, ⊎_elim, append_assoc, append-nil, mod-lt, mul-le-mul_left, div-mul-le_self, arith, length-append, length-set, pow_pos, pow_mono, eq-eqb, ne_eqb}
+use Rattle.std.proofs.Common.{◌≡◌, ℕ, zero, suc, ◌+◌, ◌-◌, ◌*◌, ◌/◌, ◌%◌, ◌^◌, ◌<◌, ◌≤◌, eqb, ◌⊎◌, List, [], ◌∷◌, ◌++◌, length, get_or, take, set, replicate, sum, Ok, Err, Result, MatchResult, sym, refl, ap, ◌∙◌, subst, inl, inr, ⊎_elim, append_assoc, append-nil, mod-lt, mul-le-mul_left, div-mul-le_self, arith, length-append, length-set, pow_pos, pow_mono, eq-eqb, ne_eqb}
 use lib.Pow.{shr_mono}
 use Rattle.std.proofs.lemmas.List.Elements.{filter-append}
 use Rattle.std.proofs.lemmas.List.{get_or-set_same, get_or-set_other, get_or-replicate, length_push, length-replicate, take-replicate}
 use Rattle.std.proofs.lemmas.List.Sums.{sum_by-set, sum_by-cons}
 use Rattle.std.proofs.lemmas.Bool.{cases_lt}
-use Rattle.geometry.specs.Lines.{upward, lines}
+use Rattle.geometry.specs.Lines.{upward, Sized, Within, Spans}
+use Rattle.geometry.specs.declared.access.LineSpan.{LineSpan}
+use Rattle.geometry.specs.declared.refusal.Refusal.{Refusal}
+use Rattle.geometry.specs.declared.refusal.Refusal.TheVariants.{SetFull}
 use Rattle.listing.specs.Touches.{of_set, Room, Roomy, Counted, CountedOn}
 
 pub of_set_here : (s : ℕ) (taken : List ℕ) (x j : ℕ) → x % 2 ^ s ≡ j → length (of_set s j (taken ++ x ∷ [])) ≡ length (of_set s j taken) + 1
@@ -61,11 +64,6 @@ pub record Going (s k : ℕ) (taken : List ℕ) (first x : ℕ) (counts : List �
   pub counted : Counted s counts (taken ++ upward first (x - first))
   pub roomy : Roomy s k taken (upward first (x - first))
 
-pub going_none : (s k : ℕ) (taken : List ℕ) (first : ℕ) (counts : List ℕ) → Counted s counts taken → Going s k taken first first counts
-going_none s k taken first counts h =
-    let none : upward first (first - first) ≡ [] = let e : first - first ≡ 0 = omega arith in ap (upward first) e in
-    record { counted = subst (Counted s counts) (sym (append-nil taken) ∙ ap (λ l. taken ++ l) (sym none)) h; roomy = subst (Roomy s k taken) (sym none) tt }
-
 pub going_more : (s k : ℕ) (taken : List ℕ) (first x : ℕ) (counts : List ℕ) → first ≤ x → Going s k taken first x counts → get_or counts (x % 2 ^ s) 0 < 2 ^ k → Going s k taken first (x + 1) (set counts (x % 2 ^ s) (get_or counts (x % 2 ^ s) 0 + 1))
 going_more s k taken first x counts low g room =
     let m = x - first in
@@ -78,13 +76,7 @@ going_more s k taken first x counts low g room =
       roomy = subst (Roomy s k taken) (sym more) (roomy_push s k taken (upward first m) x g.roomy here);
     }
 
-pub going_all : (s k : ℕ) (taken : List ℕ) (first last x : ℕ) (counts : List ℕ) → first ≤ last → x ≡ last + 1 → Going s k taken first x counts → CountedOn s k taken (upward first (last + 1 - first)) true counts
-going_all s k taken first last x counts low end g =
-    let all = upward first (last + 1 - first) in
-    let same : upward first (x - first) ≡ all = ap (λ n. upward first (n - first)) end in
-    (taken ++ all, record { took = all; split = sym (append-nil all); taken = refl; roomy = subst (Roomy s k taken) same g.roomy; full = tt }, subst (λ l. Counted s counts (taken ++ l)) same g.counted)
-
-pub going_full : (s k : ℕ) (taken : List ℕ) (first last x : ℕ) (counts : List ℕ) → first ≤ x → x ≤ last → 2 ^ k ≤ get_or counts (x % 2 ^ s) 0 → Going s k taken first x counts → CountedOn s k taken (upward first (last + 1 - first)) false counts
+pub going_full : (s k : ℕ) (taken : List ℕ) (first last x : ℕ) (counts : List ℕ) → first ≤ x → x ≤ last → 2 ^ k ≤ get_or counts (x % 2 ^ s) 0 → Going s k taken first x counts → CountedOn s k taken (upward first (last + 1 - first)) (Err SetFull) counts
 going_full s k taken first last x counts low high full g =
     let m = x - first in
     let n = last + 1 - x in
@@ -93,7 +85,7 @@ going_full s k taken first last x counts low high full g =
     let left = upward (suc x) (n - 1) in
     let split : upward first (last + 1 - first) ≡ upward first m ++ x ∷ left = ap (upward first) sum ∙ upward_split first m n ∙ ap (λ y. upward first m ++ upward y n) place ∙ ap (λ l. upward first m ++ l) (upward_first x n (omega arith)) in
     let shut : Room s k (taken ++ upward first m) x → ⊥ = λ room. let e = g.counted.each (x % 2 ^ s) (mod-lt x (pow_pos s)) in omega arith in
-    (taken ++ upward first m, x, left, record { took = upward first m; split = split; taken = refl; roomy = g.roomy; full = shut }, g.counted)
+    (refl, (taken ++ upward first m, x, left, record { took = upward first m; split = split; taken = refl; roomy = g.roomy; full = shut }, g.counted))
 
 -- the ends of an access's lines
 pub span_ordered : (b address size first last : ℕ) → 1 ≤ size → first ≡ address / 2 ^ b → last ≡ (address + size - 1) / 2 ^ b → first ≤ last
@@ -107,19 +99,22 @@ span_bounded b address size last two some within e =
     let grow : x / 2 ^ b * 2 ^ 2 ≤ x / 2 ^ b * 2 ^ b = mul-le-mul_left (x / 2 ^ b) four in
     omega arith
 
-pub span_lines : (b address size first last : ℕ) → first ≡ address / 2 ^ b → last ≡ (address + size - 1) / 2 ^ b → upward first (last + 1 - first) ≡ lines b address size
-span_lines b address size first last e f = λ i. upward (e i) (f i + 1 - e i)
+-- .. where they were answered, with another error or the same
+pub span_fits : {F : Type 0} (b address size : ℕ) (r : Result LineSpan Refusal) (answered : Result LineSpan F) (Q : Refusal → Type 0) (span : LineSpan) → 2 ≤ b → Sized size × Within address size → Spans b address size r → MatchResult r (λ x. answered ≡ Ok x) Q → answered ≡ Ok span → (span.first.0 ≤ span.last.0) × (span.last.0 + 1 < 2 ^ 64)
+span_fits b address size (Ok x) answered Q span two fits s m is =
+    let same : x ≡ span = cc in
+    subst (λ (y : LineSpan). (y.first.0 ≤ y.last.0) × (y.last.0 + 1 < 2 ^ 64)) same (span_ordered b address size _ _ s.0.0 s.2 s.3, span_bounded b address size _ two s.0.0 s.1 s.3)
+span_fits b address size (Err e) answered Q span two fits s m is = ⊎_elim (λ w. absurd (w.1 fits.0)) (λ w. absurd (w.2 fits.1)) s
 
 -- before the first touch every count is 0
 sum_zeros : (n : ℕ) → sum (replicate n 0) ≡ 0
 sum_zeros zero = refl
 sum_zeros (suc n) = sum_by-cons (λ x. x) 0 (replicate n 0) ∙ (let e = sum_zeros n in omega arith)
 
-pub none_counted : (s n room : ℕ) → n ≡ 2 ^ s → n ≤ room → Counted s (take (n - 0) (replicate room 0)) []
+pub none_counted : (s n room : ℕ) → n ≡ 2 ^ s → n ≤ room → Counted s (take n (replicate room 0)) []
 unfolding of_set
 none_counted s n room sets fit =
-    let whole : n - 0 ≡ n = omega arith in
-    let zeros : take (n - 0) (replicate {A = ℕ} room 0) ≡ replicate n 0 = ap (λ k. take k (replicate room 0)) whole ∙ take-replicate n room 0 fit in
+    let zeros : take n (replicate {A = ℕ} room 0) ≡ replicate n 0 = take-replicate n room 0 fit in
     subst (λ c. Counted s c []) (sym zeros) (record {
       long = length-replicate n 0 ∙ sets;
       each = λ j low. get_or-replicate n j 0 0 (omega arith);

@@ -42,10 +42,15 @@ policy_word Srrip = codes "srrip"
 abbrev pub PolicyWord : List ℕ → PolicyName → Type 0
 PolicyWord f p = f ≡ policy_word p
 
--- The next field of a line is Right for the value x; or it is not, for any value, and is refused at its column; or it is missing, and refused at the column after the line.
-abbrev pub Got : {T : Type 0} → (List ℕ → T → Type 0) → List ℕ → ℕ → ℕ → Result T ℕ → Type 0
-Got Right line at next (Ok x) = (f : List ℕ) × (from line at ≡ f ∷ from line next) × (next ≡ at + length f + 1) × Right f x
-Got {T} Right line at next (Err c) = ((from line at ≡ []) × (c ≡ length line + 1)) ⊎ ((f : List ℕ) × (fs : List (List ℕ)) × (from line at ≡ f ∷ fs) × ((x : T) → Right f x → ⊥) × (c ≡ at + 1))
+-- The next field is Right for the value x, and is passed; or it is not, for any value, and is refused at its column; or it is missing, and refused at the column after the line.
+abbrev pub Got : {T : Type 0} → (List ℕ → T → Type 0) → Fields → Fields → Result T ℕ → Type 0
+Got Right old new (Ok x) = (f : List ℕ) × (awaited old ≡ f ∷ awaited new) × (new.at ≡ old.at + length f + 1) × (new.line.now ≡ old.line.now) × Right f x
+Got {T} Right old new (Err c) = ((awaited old ≡ []) × (c ≡ length old.line.now + 1)) ⊎ ((f : List ℕ) × (fs : List (List ℕ)) × (awaited old ≡ f ∷ fs) × ((x : T) → Right f x → ⊥) × (c ≡ old.at + 1))
+
+-- No field is left; a further one is refused at its column.
+abbrev pub Ended : Fields → Result (Unit {0}) ℕ → Type 0
+Ended reader (Ok u) = awaited reader ≡ []
+Ended reader (Err c) = (f : List ℕ) × (fs : List (List ℕ)) × (awaited reader ≡ f ∷ fs) × (c ≡ reader.at + 1)
 
 -- One field of the first line, which is to be Right for some value: the rest of the line then decides. A wrong field is refused at its column, a missing one at the column after the line.
 abbrev pub Next : {T : Type 0} → ℕ → (List ℕ → T → Type 0) → (T → List (List ℕ) → ℕ → Result Settings ℕ → Type 0) → List (List ℕ) → ℕ → Result Settings ℕ → Type 0

@@ -1,5 +1,7 @@
 -- The touches taken: a list of line numbers, in the order of their touch numbers.
-use Rattle.std.specs.Prelude.{◌≡◌, ℕ, ◌%◌, ◌^◌, ◌<◌, Bool, true, false, List, [], ◌∷◌, ◌++◌, length, sum, filter, nat_eq, slice_index}
+use Rattle.std.specs.Prelude.{◌≡◌, ℕ, ◌%◌, ◌^◌, ◌<◌, List, [], ◌∷◌, ◌++◌, length, sum, filter, Ok, Err, Result, nat_eq, slice_index}
+use Rattle.geometry.specs.declared.refusal.Refusal.{Refusal}
+use Rattle.geometry.specs.declared.refusal.Refusal.TheVariants.{SetFull}
 
 -- those of a set: the lines whose number modulo 2^s is the set's
 unfoldable pub of_set : ℕ → ℕ → List ℕ → List ℕ
@@ -34,6 +36,6 @@ pub record Counted (s : ℕ) (counts taken : List ℕ) : Type 0 where
   pub total : sum counts ≡ length taken
 
 -- after the lines of an access: all were taken, or the first of those left found no slot
-abbrev pub CountedOn : ℕ → ℕ → List ℕ → List ℕ → Bool → List ℕ → Type 0
-CountedOn s k before lines true counts = (after : List ℕ) × Admits s k before lines after [] × Counted s counts after
-CountedOn s k before lines false counts = (after : List ℕ) × (x : ℕ) × (left : List ℕ) × Admits s k before lines after (x ∷ left) × Counted s counts after
+abbrev pub CountedOn : ℕ → ℕ → List ℕ → List ℕ → Result (Unit {0}) Refusal → List ℕ → Type 0
+CountedOn s k before lines (Ok u) counts = (after : List ℕ) × Admits s k before lines after [] × Counted s counts after
+CountedOn s k before lines (Err e) counts = (e ≡ SetFull) × ((after : List ℕ) × (x : ℕ) × (left : List ℕ) × Admits s k before lines after (x ∷ left) × Counted s counts after)

@@ -6,7 +6,7 @@ use notations::format::Format;
 pub mod parsing;
 
 // The policy that is to be set beside the oracle.
-#[derive(Clone, Copy)]
+#[derive(Clone, Copy, PartialEq, Eq, Debug)]
 pub enum PolicyName {
     Lru,
     Srrip,

@@ -1,14 +1,20 @@
-ghost use Rattle.std.specs.Prelude.{◌≤◌};
+ghost use Rattle.std.specs.Prelude.{◌≡◌, ◌+◌, ◌≤◌, ◌++◌, decimal};
+ghost use Rattle.arrayvec.specs.ArrayString.{array_string_len};
 
-mod writing;
+use arrayvec::ArrayString;
+use itoa::Buffer;
 
 // How many bytes a page can hold: more than any listing has.
 pub(crate) const ROOM: usize = 8192;
 
 // The text that is being made, before it is known whether it fits where it is to go.
-#[derive(Drop)]
-pub(crate) struct Page {
-    bytes: [u8; ROOM],
-    length: usize,
-    ghost within: { length ≤ 8192 },
+pub(crate) type Page = ArrayString<ROOM>;
+
+// A number in decimal digits, of which there are at most 20.
+pub(crate) fn push_number(page: &mut Page, n: u64)
+    requires { array_string_len page.old + 20 ≤ 8192 }
+    ensures bytes { page.new.bytes ≡ page.old.bytes ++ decimal n }
+    ensures long { array_string_len page.new ≤ array_string_len page.old + 20 }
+{
+    page.push_str(Buffer::new().format(n));
 }

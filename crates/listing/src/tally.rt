@@ -8,82 +8,88 @@ use crate::first::Settings;
 use geometry::access::LineSpan;
 use geometry::numbers::LineNumber;
 use geometry::refusal::Refusal;
-use geometry::shape::Geometry;
 use notations::fault::{Beside, LineFault, TextFault};
-use notations::line::{Meaning, Record};
+use notations::line::Record;
 use notations::notation::Notation;
 use notations::text::Lines;
 
-// Counts the touches of the lines from `first` to `last`, each in its set, up to the first whose set has `room` touches already; whether there was none.
-fn count_lines(geometry: Geometry, room: u32, first: u64, last: u64, counts: &mut [u32]) -> bool
-    requires { (length counts.old ≡ 2 ^ geometry.s) × (first ≤ last) × (last + 1 < 2 ^ 64) }
-    ensures { (k : ℕ) (taken : List ℕ) → room ≡ 2 ^ k → Counted geometry.s counts.old taken → CountedOn geometry.s k taken (upward first (last + 1 - first)) result counts.new }
-{
-    for line in first..last + 1 {
-        let set = geometry.set_of(LineNumber(line)).0 as usize;
-        if counts[set] >= room {
-            return false;
-        }
-        counts[set] += 1;
-    }
-    true
+// How often each set was touched. Touches beyond a set's slots are refused.
+#[derive(Drop)]
+pub(crate) struct Tally<'a> {
+    settings: Settings,
+    counts: &'a mut [u32],
+    ghost long: { length counts.now ≡ 2 ^ settings.geometry.s },
 }
 
-// Counts the touches of a record; a refusal stands at its address's column.
-fn count_record(
-    geometry: Geometry,
-    room: u32,
-    access: &Record,
-    counts: &mut [u32],
-) -> Result<(), LineFault>
-    requires { (length counts.old ≡ 2 ^ geometry.s) × Sized access.now.size × Within access.now.address.0 access.now.size }
-    ensures { (k : ℕ) (taken : List ℕ) → room ≡ 2 ^ k → Counted geometry.s counts.old taken → RecordCounted geometry.b geometry.s k taken access.now result counts.new }
-{
-    let column = access.column;
-    match geometry.span(access.address, access.size) {
-        Err(cause) => Err(LineFault { cause, column }),
-        Ok(LineSpan { first, last }) => {
-            if count_lines(geometry, room, first.0, last.0, counts) {
-                Ok(())
-            } else {
-                Err(LineFault {
-                    cause: Refusal::SetFull,
-                    column,
-                })
+impl<'a> Tally<'a> {
+    pub(crate) fn new(settings: Settings, counts: &'a mut [u32]) -> Tally<'a>
+        requires { length counts.old ≡ 2 ^ settings.geometry.s }
+        ensures settings { result.settings ≡ settings }
+        ensures counts { result.counts.now ≡ counts.old }
+    {
+        Tally { settings, counts }
+    }
+
+    pub(crate) fn counts(&self) -> &[u32]
+        ensures { result.now ≡ self.now.counts.now }
+    {
+        self.counts
+    }
+
+    // Counts the touches of some lines, each in its set, up to the first whose set is full.
+    fn count_lines(&mut self, span: LineSpan) -> Result<(), Refusal>
+        requires { (span.first.0 ≤ span.last.0) × (span.last.0 + 1 < 2 ^ 64) }
+        ensures settings { self.new.settings ≡ self.old.settings }
+        ensures counted { (taken : List ℕ) → Counted self.old.settings.geometry.s self.old.counts.now taken → CountedOn self.old.settings.geometry.s self.old.settings.k taken (upward span.first.0 (span.last.0 + 1 - span.first.0)) result self.new.counts.now }
+    {
+        let slots = 1 << self.settings.k;
+        for line in span.first.0..span.last.0 + 1 {
+            let set = self.settings.geometry.set_of(LineNumber(line)).0 as usize;
+            if self.counts[set] >= slots {
+                return Err(Refusal::SetFull);
             }
+            self.counts[set] += 1;
+        }
+        Ok(())
+    }
+
+    // Counts the touches of a record; a refusal stands at its address's column.
+    fn count_record(&mut self, access: &Record) -> Result<(), LineFault>
+        requires { Sized access.now.size × Within access.now.address.0 access.now.size }
+        ensures settings { self.new.settings ≡ self.old.settings }
+        ensures counted { (taken : List ℕ) → Counted self.old.settings.geometry.s self.old.counts.now taken → RecordCounted self.old.settings.geometry.b self.old.settings.geometry.s self.old.settings.k taken access.now result self.new.counts.now }
+    {
+        let at_address = |cause| LineFault {
+            cause,
+            column: access.column,
+        };
+        let span = self
+            .settings
+            .geometry
+            .span(access.address, access.size)
+            .map_err(at_address)?;
+        self.count_lines(span).map_err(at_address)
+    }
+
+    // Counts the touches of one line of text, if it records any.
+    fn count_line(&mut self, line: &[u8]) -> Result<(), LineFault>
+        ensures settings { self.new.settings ≡ self.old.settings }
+        ensures counted { (taken : List ℕ) → Counted self.old.settings.geometry.s self.old.counts.now taken → LineCounted self.old.settings self.old.settings.k taken line.now result self.new.counts.now }
+    {
+        match self.settings.format.read(line)? {
+            None => Ok(()),
+            Some(access) => self.count_record(&access),
         }
     }
-}
 
-// Counts the touches of one line of text, if it records any.
-fn count_line(
-    settings: &Settings,
-    room: u32,
-    line: &[u8],
-    counts: &mut [u32],
-) -> Result<(), LineFault>
-    requires { length counts.old ≡ 2 ^ settings.now.geometry.s }
-    ensures { (k : ℕ) (taken : List ℕ) → room ≡ 2 ^ k → Counted settings.now.geometry.s counts.old taken → LineCounted settings.now k taken line.now result counts.new }
-{
-    match settings.format.read(line)? {
-        Meaning::Skipped => Ok(()),
-        Meaning::Read(access) => count_record(settings.geometry, room, &access, counts),
+    // Counts the touches of the lines that a reader has still to give.
+    pub(crate) fn count_trace(&mut self, lines: &mut Lines) -> Result<(), TextFault>
+        ensures settings { self.new.settings ≡ self.old.settings }
+        ensures counted { (taken : List ℕ) → Counted self.old.settings.geometry.s self.old.counts.now taken → TraceCounted self.old.settings self.old.settings.k taken (left lines.old) (lines.old.number + 1) result self.new.counts.now }
+    {
+        while let Some(line) = lines.next() {
+            self.count_line(line).beside(lines.number())?;
+        }
+        Ok(())
     }
-}
-
-// Counts the touches of the lines that a reader has still to give.
-pub(crate) fn count_trace(
-    settings: &Settings,
-    room: u32,
-    lines: &mut Lines,
-    counts: &mut [u32],
-) -> Result<(), TextFault>
-    requires { length counts.old ≡ 2 ^ settings.now.geometry.s }
-    ensures { (k : ℕ) (taken : List ℕ) → room ≡ 2 ^ k → Counted settings.now.geometry.s counts.old taken → TraceCounted settings.now k taken (left lines.old) (lines.old.number + 1) result counts.new }
-{
-    while let Some(line) = lines.next_line() {
-        let number = lines.number();
-        count_line(settings, room, line, counts).beside(number)?;
-    }
-    Ok(())
 }

@@ -10,7 +10,7 @@ impl Geometry {
     pub fn new(b: u32, s: u32, ways: u32) -> Result<Geometry, Refusal>
         ensures { Opened b s ways result }
     {
-        if (b < 2 || b > 12) || s > 10 || (ways < 1 || ways > 16) {
+        if !(2..=12).contains(&b) || s > 10 || !(1..=16).contains(&ways) {
             return Err(Refusal::Limits);
         }
         Ok(Geometry { b, s, ways })

@@ -1,6 +1,6 @@
-ghost use Rattle.std.specs.Prelude.{◌≡◌, ℕ, ◌+◌, ◌<◌, ◌≤◌, [], ◌∷◌, length, MatchOption};
+ghost use Rattle.std.specs.Prelude.{◌≡◌, ℕ, ◌+◌, ◌<◌, ◌≤◌, List, [], ◌∷◌, length, MatchOption};
 ghost use Rattle.std.specs.Char.{digit_value};
-ghost use Rattle.listing.specs.Fields.{awaited, fields, Number, Between, Got, FormatWord, PolicyWord, FirstLine};
+ghost use Rattle.listing.specs.Fields.{awaited, fields, Number, Between, Got, Ended, FormatWord, PolicyWord, FirstLine};
 
 use crate::first::{Fields, PolicyName, Settings};
 use geometry::shape::Geometry;
@@ -21,106 +21,92 @@ impl<'t> Fields<'t> {
         ensures line { self.new.line.now ≡ self.old.line.now }
         ensures field { MatchOption result ((awaited self.old ≡ []) × (self.new.at ≡ self.old.at)) (λ f. (awaited self.old ≡ f.now ∷ awaited self.new) × (self.new.at ≡ self.old.at + length f.now + 1)) }
     {
-        let line = self.line;
-        let at = self.at;
-        if at > line.len() {
-            return None;
-        }
-        let rest = &line[at..];
+        let rest = self.line.get(self.at..)?;
         let length = unbroken(rest, b' ');
-        self.at = at + length + 1;
-        Some(&rest[0..length])
+        self.at += length + 1;
+        Some(&rest[..length])
+    }
+
+    // The next field, which is to be a word for some value; else the column of the fault.
+    fn field<T: Word>(&mut self) -> Result<T, usize>
+        ensures { Got T.Says self.old self.new result }
+    {
+        let column = self.at + 1;
+        let word = self.next_field().ok_or(self.line.len() + 1)?;
+        T::read(word).ok_or(column)
     }
 
     // The number in the next field, which is to be from `low` to `high`; else the column of the fault.
     fn number(&mut self, low: u32, high: u32) -> Result<u32, usize>
-        ensures line { self.new.line.now ≡ self.old.line.now }
-        ensures got { Got (Between low high) self.old.line.now self.old.at self.new.at result }
+        ensures { Got (Between low high) self.old self.new result }
     {
         let column = self.at + 1;
-        let Some(field) = self.next_field() else {
-            return Err(self.line.len() + 1);
-        };
-        let Some(n) = small_number(field) else {
-            return Err(column);
-        };
-        if n < low || n > high {
+        let n = self.field::<u32>()?;
+        if !(low..=high).contains(&n) {
             return Err(column);
         }
         Ok(n)
     }
 
-    fn format(&mut self) -> Result<Format, usize>
-        ensures line { self.new.line.now ≡ self.old.line.now }
-        ensures got { Got FormatWord self.old.line.now self.old.at self.new.at result }
+    // The line ends here; else the column of a field too many.
+    fn end(&self) -> Result<(), usize>
+        ensures { Ended self.now result }
     {
-        let column = self.at + 1;
-        let Some(field) = self.next_field() else {
-            return Err(self.line.len() + 1);
-        };
-        match format_of(field) {
-            Some(format) => Ok(format),
-            None => Err(column),
+        if self.at <= self.line.len() {
+            return Err(self.at + 1);
         }
-    }
-
-    fn policy(&mut self) -> Result<PolicyName, usize>
-        ensures line { self.new.line.now ≡ self.old.line.now }
-        ensures got { Got PolicyWord self.old.line.now self.old.at self.new.at result }
-    {
-        let column = self.at + 1;
-        let Some(field) = self.next_field() else {
-            return Err(self.line.len() + 1);
-        };
-        match policy_of(field) {
-            Some(policy) => Ok(policy),
-            None => Err(column),
-        }
+        Ok(())
     }
 }
 
+// A value that a field of the first line can be a word for.
+trait Word: Sized {
+    ghost Says: { List ℕ → Self → Type 0 };
+
+    fn read(word: &[u8]) -> Option<Self>
+        ensures { MatchOption result ((x : Self) → Says word.now x → ⊥) (λ x. Says word.now x) };
+}
+
 // A number of one or two decimal digits.
-fn small_number(field: &[u8]) -> Option<u32>
-    ensures { MatchOption result ((n : ℕ) → Number field.now n → ⊥) (λ n. Number field.now n) }
-{
-    match field {
-        [ones] => digit(*ones),
-        [tens, ones] => {
-            let Some(tens) = digit(*tens) else {
-                return None;
-            };
-            let Some(ones) = digit(*ones) else {
-                return None;
-            };
-            Some(tens * 10 + ones)
+impl Word for u32 {
+    ghost Says = { Number };
+
+    fn read(word: &[u8]) -> Option<u32> {
+        match word {
+            [ones] => digit(*ones),
+            [tens, ones] => Some(digit(*tens)? * 10 + digit(*ones)?),
+            _ => None,
         }
-        _ => None,
     }
 }
 
 fn digit(byte: u8) -> Option<u32>
     ensures { MatchOption result (10 ≤ digit_value byte) (λ d. (d ≡ digit_value byte) × (d < 10)) }
 {
-    (byte as char).to_digit(10)
+    char::from(byte).to_digit(10)
 }
 
-fn format_of(field: &[u8]) -> Option<Format>
-    ensures { MatchOption result ((x : Format) → FormatWord field.now x → ⊥) (λ x. FormatWord field.now x) }
-{
-    match field {
-        b"din" => Some(Format::Din),
-        b"lackey" => Some(Format::Lackey),
-        _ => None,
+impl Word for Format {
+    ghost Says = { FormatWord };
+
+    fn read(word: &[u8]) -> Option<Format> {
+        match word {
+            b"din" => Some(Format::Din),
+            b"lackey" => Some(Format::Lackey),
+            _ => None,
+        }
     }
 }
 
-fn policy_of(field: &[u8]) -> Option<PolicyName>
-    ensures { MatchOption result ((x : PolicyName) → PolicyWord field.now x → ⊥) (λ x. PolicyWord field.now x) }
-{
-    match field {
-        b"lru" => Some(PolicyName::Lru),
-        b"srrip" => Some(PolicyName::Srrip),
-        _ => None,
+impl Word for PolicyName {
+    ghost Says = { PolicyWord };
+
+    fn read(word: &[u8]) -> Option<PolicyName> {
+        match word {
+            b"lru" => Some(PolicyName::Lru),
+            b"srrip" => Some(PolicyName::Srrip),
+            _ => None,
+        }
     }
 }
 
@@ -134,19 +120,16 @@ pub fn settings(line: &[u8]) -> Result<Settings, usize>
     let ways = fields.number(1, 16)?;
     // s + k is at most 8, and so k at most 16
     let k = fields.number(1, 8u32.saturating_sub(s))?;
-    let format = fields.format()?;
-    let policy = fields.policy()?;
-    let end = fields.at;
-    if end <= line.len() {
-        return Err(end + 1);
-    }
-    match Geometry::new(b, s, ways) {
-        Ok(geometry) => Ok(Settings {
-            geometry,
-            k,
-            format,
-            policy,
-        }),
-        Err(_) => unreachable(),
-    }
+    let format = fields.field()?;
+    let policy = fields.field()?;
+    fields.end()?;
+    let Ok(geometry) = Geometry::new(b, s, ways) else {
+        unreachable()
+    };
+    Ok(Settings {
+        geometry,
+        k,
+        format,
+        policy,
+    })
 }

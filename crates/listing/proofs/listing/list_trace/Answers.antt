@@ -1,17 +1,12 @@
-use Rattle.std.proofs.Common.{◌^◌, ◌≤◌, [], arith, pow_mono}
-use Rattle.std.proofs.lemmas.Nat.{one_shl}
-use Rattle.listing.proofs.Tables.{listed_whole, listed_stopped}
+use Rattle.std.proofs.Common.{◌^◌, ◌≤◌, [], sym, subst, arith, pow_mono}
+use Rattle.listing.specs.Touches.{Counted}
+use Rattle.listing.proofs.Tables.{listed}
 use Rattle.listing.proofs.Tallies.{none_counted}
 use Rattle.listing.proofs.listing.list_trace.Goals as goal
 
-pub returns-in_default : goal.returns-in_default
-returns-in_default c =
-    let sets : 2 ^ c.args.settings.now.geometry.s ≤ 2 ^ 7 = pow_mono {j = 7} (omega arith) in
-    let room = one_shl c.args.settings.now.k 32 (omega arith) in
-    listed_whole c.args.settings.now _ _ _ _ _ c.requires.2 c.requires.1 (c.in_default.ensures c.args.settings.now.k [] room (none_counted _ _ 128 c.sets-sets.ensures (omega (arith, c.sets-sets.ensures)))) (c.write_table.ensures.shown c.args.settings.now.geometry.s)
-
-pub returns-in-Err : goal.returns-in-Err
-returns-in-Err c =
-    let sets : 2 ^ c.args.settings.now.geometry.s ≤ 2 ^ 7 = pow_mono {j = 7} (omega arith) in
-    let room = one_shl c.args.settings.now.k 32 (omega arith) in
-    listed_stopped c.args.settings.now _ _ _ _ _ _ _ c.requires.2 c.requires.1 (c.in-Err.ensures c.args.settings.now.k [] room (none_counted _ _ 128 c.sets-sets.ensures (omega (arith, c.sets-sets.ensures)))) (c.write_table.ensures.shown c.args.settings.now.geometry.s) c.write_stop.ensures
+pub returns-clause-bytes : goal.returns-clause-bytes
+returns-clause-bytes c =
+    let x = c.args.settings.now in
+    let sets : 2 ^ x.geometry.s ≤ 2 ^ 7 = pow_mono {j = 7} (omega (arith, x.few)) in
+    let start = subst (λ counts. Counted x.geometry.s counts []) (sym c.new-tally.ensures.counts) (none_counted _ _ 128 c.sets-sets.ensures (omega (arith, c.sets-sets.ensures))) in
+    listed _ x _ _ _ _ _ _ c.count_trace-end.result c.new-tally.ensures.settings c.requires.1 c.requires.0 start c.count_trace-end.ensures.counted (λ taken counted. c.write_table.ensures.bytes x.geometry.s taken (subst (λ counts. Counted x.geometry.s counts taken) (sym c.counts.ensures) counted))
