@@ -1,7 +1,6 @@
 -- din: how its lines go on, where they do not, and that a line is one record at most.
-use Rattle.std.specs.Prelude.{◌≡◌, ℕ, ◌+◌, ◌-◌, ◌<◌, ◌≤◌, cond, ◌⊎◌, List, [], ◌∷◌, ◌++◌, length, take, drop, Some as Just, None, Option, ◌==◌, ◌≢◌, slice_index, slice_index_or, refl}
+use Rattle.std.specs.Prelude.{◌≡◌, ℕ, ◌+◌, ◌-◌, ◌^◌, ◌<◌, ◌≤◌, cond, ◌⊎◌, List, [], ◌∷◌, ◌++◌, length, take, drop, Some as Just, None, Option, ◌==◌, ◌≢◌, slice_index, slice_index_or, refl}
 use Rattle.std.proofs.Common.{sym, ap, subst, ◌∙◌, inl, inr, ⊎_elim, append_assoc, arith, length-append, length-drop, take-append-drop}
-use Rattle.std.proofs.ByRecursion.{All-get_or}
 use Rattle.std.proofs.lemmas.List.{take_all, length-take-le, length_push, drop_all, drop_more, take_rest, get_or-drop}
 use Rattle.std.proofs.lemmas.Bool.{cases_lt}
 use Rattle.std.specs.Str.Parse.{AllDigits, digits_value}
@@ -10,7 +9,7 @@ use Rattle.std.specs.List.{between, AllByRecursion}
 use Rattle.geometry.specs.declared.refusal.Refusal.TheVariants.{UnknownKind, Misfit}
 use Rattle.notations.specs.Bytes.{Blank, Figures, Stops, Indent, Longest}
 use Rattle.notations.specs.Din.{label, DinRecord, din}
-use Rattle.notations.specs.Grammar.{Reading, Begins, Misfits, Refuses, One}
+use Rattle.notations.specs.Grammar.{Reading, Begins, Misfits, Refuses, Means, told, refused, One}
 use Rattle.notations.specs.declared.line.Kind.{Kind}
 use Rattle.notations.specs.declared.line.Kind.TheVariants.{Fetch, Load, Store, Modify}
 use Rattle.notations.specs.Meanings.{Dies, misfits, unknown_kind, misfit, one_meaning}
@@ -178,119 +177,141 @@ pub din_one : One din
 unfolding din
 din_one = one_meaning din one_record
 
--- What the reader has seen of a line: an indent of i bytes, a byte that is not blank, a gap of g bytes, n digits.
-pub record Scanned (line after rest : List ℕ) (i g n v : ℕ) : Type 0 where
-  pub after_is : after ≡ drop (i + 1) line
-  pub rest_is : rest ≡ drop g after
-  pub low : i < length line
-  pub indent : Indent line i
+-- What the reader has seen of a line at first: an indent of i bytes, a byte that is not blank.
+pub record Marked (line after : List ℕ) (mark i : ℕ) : Type 0 where
+  pub line_is : line ≡ take i line ++ mark ∷ after
+  pub long : length (take i line) ≡ i
+  pub indent : AllByRecursion Blank (take i line)
+  pub solid : Blank mark → ⊥
+
+-- Then: a gap of g bytes, n digits.
+pub record Scanned (line after rest : List ℕ) (mark i g n v : ℕ) : Type 0 where
+  pub marked : Marked line after mark i
+  pub after_is : rest ≡ drop g after
   pub gap : Indent after g
   pub digits : Longest 16 16 rest n v
 
-pub blank_line : (line : List ℕ) (i : ℕ) → Indent line i → i ≡ length line → din.skips line
-unfolding din
-blank_line line i h e = subst (AllByRecursion Blank) (take_all i line (omega arith)) h.blanks
-
-pub solid_line : (line : List ℕ) (i : ℕ) → Indent line i → i < length line → din.skips line → ⊥
-unfolding din
-solid_line line i h low blank = h.stops low (All-get_or Blank line i 0 low blank)
-
-line_is : (line after : List ℕ) (i : ℕ) → after ≡ drop (i + 1) line → i < length line → line ≡ take i line ++ slice_index line i ∷ after
-line_is line after i e low = sym (take-append-drop i line) ∙ ap (λ r. take i line ++ r) (drop_more line i 0 low) ∙ ap (λ r. take i line ++ slice_index line i ∷ r) (sym e)
-
 parts_are : (bs rest : List ℕ) (n : ℕ) → rest ≡ drop n bs → bs ≡ take n bs ++ rest
 parts_are bs rest n e = sym (take-append-drop n bs) ∙ ap (λ r. take n bs ++ r) (sym e)
+
+-- the parts of the line as the reader cuts them
+pub marked : (line : List ℕ) (i : ℕ) → Indent line i → 1 ≤ length (between i (length line) line) → Marked line (between 1 (length (between i (length line) line)) (between i (length line) line)) (slice_index (between i (length line) line) 0) i
+marked line i h some =
+    let rest = between i (length line) line in
+    let is : rest ≡ drop i line = take_rest line i in
+    let long : length rest ≡ length line - i = ap length is ∙ length-drop i line in
+    let low : i < length line = omega arith in
+    let mark : slice_index rest 0 ≡ slice_index line i = ap (λ r. slice_index r 0) is ∙ get_or-drop i line 0 0 ∙ (let z : i + 0 ≡ i = omega arith in ap (λ k. slice_index line k) z) in
+    record {
+      line_is = parts_are line rest i is ∙ ap (λ r. take i line ++ r) (first_and_rest rest some);
+      long = length-take-le i line h.within;
+      indent = h.blanks;
+      solid = λ b. h.stops low (subst Blank mark b);
+    }
+  where
+    first_and_rest : (bs : List ℕ) → 1 ≤ length bs → bs ≡ slice_index bs 0 ∷ between 1 (length bs) bs
+    first_and_rest [] some = absurd (omega arith)
+    first_and_rest (b ∷ bs) some = ap (λ r. b ∷ r) (sym (take_rest (b ∷ bs) 1))
+
+pub scanned : {line after : List ℕ} {mark i g n v : ℕ} → Marked line after mark i → Indent after g → Longest 16 16 (between g (length after) after) n v → Scanned line after (between g (length after) after) mark i g n v
+scanned {line} {after} {mark} {i} {g} m gap digits = record { marked = m; after_is = take_rest after g; gap = gap; digits = digits }
+
+pub blank_line : (line : List ℕ) (i : ℕ) → Indent line i → length (between i (length line) line) < 1 → din.skips line
+unfolding din
+blank_line line i h none =
+    let long = ap length (take_rest line i) ∙ length-drop i line in
+    subst (AllByRecursion Blank) (take_all i line (omega arith)) h.blanks
+
+marked_solid : {line after : List ℕ} {mark i : ℕ} → Marked line after mark i → din.skips line → ⊥
+unfolding din
+marked_solid {line} {after} {mark} {i} m blank = m.solid (all_here Blank (take i line) mark after (subst (AllByRecursion Blank) m.line_is blank))
 
 -- a front that has a label is not all blank
 labelled_solid : (indent : List ℕ) (mark : ℕ) (bs : List ℕ) → IsLabel mark → din.lead (indent ++ mark ∷ bs) → ⊥
 unfolding din
 labelled_solid indent mark bs l h = label_solid mark l (all_here Blank indent mark bs h)
 
-pub no_label : (line : List ℕ) (i : ℕ) → Indent line i → i < length line → ((k : Kind) → label k ≢ Just (slice_index line i)) → Refuses din line UnknownKind (i + 1)
+pub no_label : {line after : List ℕ} {mark i : ℕ} → Marked line after mark i → ((k : Kind) → label k ≢ Just mark) → Means din line (refused UnknownKind (i + 1))
 unfolding din
-no_label line i h low other =
-    unknown_kind din line (take i line) (slice_index line i ∷ drop (i + 1) line) i (line_is line (drop (i + 1) line) i refl low) (length-take-le i line h.within)
-    (refuse_label (take i line) (slice_index line i) (drop (i + 1) line) h.blanks (h.stops low) (λ l. other (kind_of (slice_index line i)) (label_of (slice_index line i) l))) h.blanks
+no_label {line} {after} {mark} {i} m other = (
+  marked_solid m,
+  unknown_kind din line (take i line) (mark ∷ after) i m.line_is m.long
+      (refuse_label (take i line) mark after m.indent m.solid (λ l. other (kind_of mark) (label_of mark l))) m.indent,
+)
 
-no_gap : (line after rest : List ℕ) (i g n v : ℕ) → Scanned line after rest i g n v → IsLabel (slice_index line i) → g ≡ 0 → Refuses din line Misfit (i + g + 2)
-no_gap line after rest i g n v s l none =
-    let p = take i line ++ slice_index line i ∷ [] in
-    let shape : line ≡ p ++ after = line_is line after i s.after_is s.low ∙ sym (append_assoc (take i line) (slice_index line i ∷ []) after) in
-    let long : length p ≡ i + 1 = length_push (take i line) (slice_index line i) ∙ ap (λ k. k + 1) (length-take-le i line s.indent.within) in
+no_gap : (line after rest : List ℕ) (mark i g n v : ℕ) → Scanned line after rest mark i g n v → IsLabel mark → g ≡ 0 → Refuses din line Misfit (i + g + 2)
+no_gap line after rest mark i g n v s l none =
+    let p = take i line ++ mark ∷ [] in
+    let shape : line ≡ p ++ after = s.marked.line_is ∙ sym (append_assoc (take i line) (mark ∷ []) after) in
+    let long : length p ≡ i + 1 = length_push (take i line) mark ∙ ap (λ k. k + 1) s.marked.long in
     let solid : 0 < length after → Blank (slice_index after 0) → ⊥ = subst (λ k. k < length after → Blank (slice_index after k) → ⊥) none s.gap.stops in
     let column : i + 1 + 1 ≡ i + g + 2 = omega arith in
-    subst (Refuses din line Misfit) column (misfit din line p after (i + 1) shape long (refuse_gap (take i line) (slice_index line i) after s.indent.blanks l solid) (labelled_solid (take i line) (slice_index line i) [] l))
+    subst (Refuses din line Misfit) column (misfit din line p after (i + 1) shape long (refuse_gap (take i line) mark after s.marked.indent l solid) (labelled_solid (take i line) mark [] l))
 
-no_digits : (line after rest : List ℕ) (i g n v : ℕ) → Scanned line after rest i g n v → IsLabel (slice_index line i) → 0 < g → n ≡ 0 → Refuses din line Misfit (i + g + 2)
-no_digits line after rest i g n v s l some none =
-    let mark = slice_index_or line i 0 in
+no_digits : (line after rest : List ℕ) (mark i g n v : ℕ) → Scanned line after rest mark i g n v → IsLabel mark → 0 < g → n ≡ 0 → Refuses din line Misfit (i + g + 2)
+no_digits line after rest mark i g n v s l some none =
     let p = take i line ++ mark ∷ take g after in
-    let shape : line ≡ p ++ rest = line_is line after i s.after_is s.low ∙ ap (λ r. take i line ++ mark ∷ r) (parts_are after rest g s.rest_is) ∙ sym (append_assoc (take i line) (mark ∷ take g after) rest) in
-    let front = length-take-le i line s.indent.within in
+    let shape : line ≡ p ++ rest = s.marked.line_is ∙ ap (λ r. take i line ++ mark ∷ r) (parts_are after rest g s.after_is) ∙ sym (append_assoc (take i line) (mark ∷ take g after) rest) in
+    let front = s.marked.long in
     let middle = length-take-le g after s.gap.within in
     let long : length p ≡ i + g + 1 = simp length-append (omega arith) in
-    let room : length rest ≡ length after - g = ap length s.rest_is ∙ length-drop g after in
-    let there : slice_index_or rest 0 0 ≡ slice_index_or after g 0 = ap (λ r. slice_index r 0) s.rest_is ∙ get_or-drop g after 0 0 ∙ (let z : g + 0 ≡ g = omega arith in ap (λ k. slice_index after k) z) in
+    let room : length rest ≡ length after - g = ap length s.after_is ∙ length-drop g after in
+    let there : slice_index_or rest 0 0 ≡ slice_index_or after g 0 = ap (λ r. slice_index r 0) s.after_is ∙ get_or-drop g after 0 0 ∙ (let z : g + 0 ≡ g = omega arith in ap (λ k. slice_index after k) z) in
     let solid : 0 < length rest → Blank (slice_index rest 0) → ⊥ = λ h b. s.gap.stops (omega arith) (subst Blank there b) in
     let stops : 0 < length rest → 16 ≤ digit_value (slice_index rest 0) = λ h. subst (λ k. k < length rest → k < 16 → 16 ≤ digit_value (slice_index rest k)) none s.digits.stops h (omega arith) in
     let column : i + g + 1 + 1 ≡ i + g + 2 = omega arith in
-    subst (Refuses din line Misfit) column (misfit din line p rest (i + g + 1) shape long (refuse_digits (take i line) mark (take g after) rest s.indent.blanks l s.gap.blanks (omega arith) solid stops) (labelled_solid (take i line) mark (take g after) l))
+    subst (Refuses din line Misfit) column (misfit din line p rest (i + g + 1) shape long (refuse_digits (take i line) mark (take g after) rest s.marked.indent l s.gap.blanks (omega arith) solid stops) (labelled_solid (take i line) mark (take g after) l))
 
-pub no_address : (line after rest : List ℕ) (i g n v : ℕ) → Scanned line after rest i g n v → IsLabel (slice_index line i) → (g ≡ 0) ⊎ ((g ≢ 0) × (n ≡ 0)) → Refuses din line Misfit (i + g + 2)
-no_address line after rest i g n v s l none =
-    ⊎_elim (no_gap line after rest i g n v s l) (λ w. no_digits line after rest i g n v s l (let z = w.0 in omega arith) w.1) none
+pub no_address : {line after rest : List ℕ} {mark i g n v : ℕ} → Scanned line after rest mark i g n v → (k : Kind) → label k ≡ Just mark → (g ≡ 0) ⊎ ((g ≢ 0) × (n ≡ 0)) → Means din line (refused Misfit (i + g + 2))
+no_address {line} {after} {rest} {mark} {i} {g} {n} {v} s k label_is none =
+    let l = is_label k mark label_is in
+    (marked_solid s.marked, ⊎_elim (no_gap line after rest mark i g n v s l) (λ w. no_digits line after rest mark i g n v s l (let z = w.0 in omega arith) w.1) none)
 
-figures_of : (line after rest : List ℕ) (i g n v : ℕ) → Scanned line after rest i g n v → 0 < n → Figures 16 16 (take n rest)
-figures_of line after rest i g n v s any =
+figures_of : {line after rest : List ℕ} {mark i g n v : ℕ} → Scanned line after rest mark i g n v → 0 < n → Figures 16 16 (take n rest)
+figures_of {line} {after} {rest} {mark} {i} {g} {n} {v} s any =
     let long = length-take-le n rest s.digits.within in
     let few = s.digits.few in
     record { some = omega arith; few = omega arith; digits = s.digits.digits }
 
-not_ended : (bs : List ℕ) (n : ℕ) → (Stops (drop n bs) → ⊥) → n < length bs
-not_ended bs n on = ⊎_elim (λ low. low) (λ high. absurd (on (subst Stops (sym (drop_all n bs high)) tt))) (cases_lt n (length bs))
-
-pub no_end : (line after rest : List ℕ) (i g n v : ℕ) → Scanned line after rest i g n v → IsLabel (slice_index line i) → 0 < g → 0 < n → (Stops (between n (length rest) rest) → ⊥) → Refuses din line Misfit (i + g + 2 + n)
-no_end line after rest i g n v s l some any uncut =
-    let on : Stops (drop n rest) → ⊥ = λ h. uncut (subst Stops (sym (take_rest rest n)) h) in
-    let inside : n < length rest = not_ended rest n on in
+pub no_end : {line after rest end : List ℕ} {mark i g n v : ℕ} → Scanned line after rest mark i g n v → (k : Kind) → label k ≡ Just mark → 0 < g → 0 < n → end ≡ drop n rest → (Stops end → ⊥) → Means din line (refused Misfit (i + g + 2 + n))
+no_end {line} {after} {rest} {end} {mark} {i} {g} {n} {v} s k label_is some any end_is unstopped =
+    let on : Stops (drop n rest) → ⊥ = λ h. unstopped (subst Stops (sym end_is) h) in
+    let l = is_label k mark label_is in
+    let inside : n < length rest = ⊎_elim (λ low. low) (λ high. absurd (on (subst Stops (sym (drop_all n rest high)) tt))) (cases_lt n (length rest)) in
     let solid : Blank (slice_index rest n) → ⊥ = λ b. on (subst Stops (sym (drop_more rest n 0 inside)) b) in
-    let mark = slice_index_or line i 0 in
     let ds = take n rest in
     let p = take i line ++ mark ∷ (take g after ++ ds) in
     let r = drop (n + 1) rest in
-    let tail : rest ≡ ds ++ slice_index rest n ∷ r = line_is rest r n refl inside in
-    let shape : line ≡ p ++ slice_index rest n ∷ r = line_is line after i s.after_is s.low ∙ ap (λ x. take i line ++ mark ∷ x) (parts_are after rest g s.rest_is ∙ ap (λ x. take g after ++ x) tail ∙ sym (append_assoc (take g after) ds (slice_index rest n ∷ r))) ∙ sym (append_assoc (take i line) (mark ∷ (take g after ++ ds)) (slice_index rest n ∷ r)) in
-    let front = length-take-le i line s.indent.within in
+    let tail : rest ≡ ds ++ slice_index rest n ∷ r = sym (take-append-drop n rest) ∙ ap (λ x. ds ++ x) (drop_more rest n 0 inside) in
+    let shape : line ≡ p ++ slice_index rest n ∷ r = s.marked.line_is ∙ ap (λ x. take i line ++ mark ∷ x) (parts_are after rest g s.after_is ∙ ap (λ x. take g after ++ x) tail ∙ sym (append_assoc (take g after) ds (slice_index rest n ∷ r))) ∙ sym (append_assoc (take i line) (mark ∷ (take g after ++ ds)) (slice_index rest n ∷ r)) in
+    let front = s.marked.long in
     let middle = length-take-le g after s.gap.within in
     let last = length-take-le n rest s.digits.within in
     let long : length p ≡ i + g + 1 + n = simp length-append (omega arith) in
-    let column : i + g + 1 + n + 1 ≡ i + g + 2 + n = omega arith in
-    subst (Refuses din line Misfit) column (misfit din line p (slice_index rest n ∷ r) (i + g + 1 + n) shape long (refuse_end (take i line) mark (take g after) ds (slice_index rest n) r s.indent.blanks l s.gap.blanks (omega arith) (figures_of line after rest i g n v s any) solid (λ low. s.digits.stops inside (omega arith))) (labelled_solid (take i line) mark (take g after ++ ds) l))
+    let column : i + g + 1 + n + 1 ≡ i + g + 2 + n = omega arith in (
+      marked_solid s.marked,
+      subst (Refuses din line Misfit) column (misfit din line p (slice_index rest n ∷ r) (i + g + 1 + n) shape long (refuse_end (take i line) mark (take g after) ds (slice_index rest n) r s.marked.indent l s.gap.blanks (omega arith) (figures_of s any) solid (λ low. s.digits.stops inside (omega arith))) (labelled_solid (take i line) mark (take g after ++ ds) l)),
+    )
 
-pub a_record : (line after rest : List ℕ) (i g n v : ℕ) (k : Kind) → Scanned line after rest i g n v → label k ≡ Just (slice_index line i) → 0 < g → 0 < n → Stops (between n (length rest) rest) → din.records line (record { kind = k; address = v; size = 1; digits = between 0 n rest; column = i + g + 2 })
+pub a_record : {line after rest ds end : List ℕ} {mark i g n v : ℕ} → Scanned line after rest mark i g n v → (k : Kind) → label k ≡ Just mark → 0 < g → 0 < n → v < 2 ^ 64 → ds ≡ take n rest → end ≡ drop n rest → Stops end → Means din line (told (record { kind = k; address = v; size = 1; digits = ds; column = i + g + 2 }))
 unfolding din
-a_record line after rest i g n v k s l some any stops =
-    let zero_off : n - 0 ≡ n = omega arith in
-    let is : between 0 n rest ≡ take n rest = ap (λ j. take j rest) zero_off in
-    let front = length-take-le i line s.indent.within in
+a_record {line} {after} {rest} {ds} {end} {mark} {i} {g} {n} {v} s k label_is some any low is end_is stops =
+    let front = s.marked.long in
     let middle = length-take-le g after s.gap.within in
-    record {
+    let record_is : DinRecord line (record { kind = k; address = v; size = 1; digits = ds; column = i + g + 2 }) = record {
       indent = take i line;
-      mark = slice_index line i;
+      mark = mark;
       gap = take g after;
-      rest = drop n rest;
-      shape = line_is line after i s.after_is s.low ∙ ap (λ x. take i line ++ slice_index line i ∷ x) (parts_are after rest g s.rest_is ∙ ap (λ x. take g after ++ x) (sym (take-append-drop n rest) ∙ ap (λ x. x ++ drop n rest) (sym is)));
-      indented = s.indent.blanks;
-      labelled = l;
+      rest = end;
+      shape = s.marked.line_is ∙ ap (λ x. take i line ++ mark ∷ x) (parts_are after rest g s.after_is ∙ ap (λ x. take g after ++ x) (sym (take-append-drop n rest) ∙ (λ j. sym is j ++ sym end_is j)));
+      indented = s.marked.indent;
+      labelled = label_is;
       apart = s.gap.blanks;
       some = omega arith;
-      figures = subst (Figures 16 16) (sym is) (figures_of line after rest i g n v s any);
-      stops = subst Stops (take_rest rest n) stops;
+      figures = subst (Figures 16 16) (sym is) (figures_of s any);
+      stops = stops;
       address = s.digits.is ∙ ap (digits_value 16) (sym is);
       size = refl;
       column = omega arith;
-    }
-
--- the parts of the line as the reader cuts them
-pub scanned : (line : List ℕ) (i g n v : ℕ) → i < length line → Indent line i → Indent (between (i + 1) (length line) line) g → Longest 16 16 (between g (length (between (i + 1) (length line) line)) (between (i + 1) (length line) line)) n v → Scanned line (between (i + 1) (length line) line) (between g (length (between (i + 1) (length line) line)) (between (i + 1) (length line) line)) i g n v
-scanned line i g n v low indent gap digits = record { after_is = take_rest line (i + 1); rest_is = take_rest (between (i + 1) (length line) line) g; low = low; indent = indent; gap = gap; digits = digits }
+    } in
+    (marked_solid s.marked, record_is, (omega arith, omega arith), omega arith)

@@ -6,9 +6,10 @@ use Rattle.std.proofs.lemmas.List.{take_all, take_rest, length-take-le, drop_mor
 use Rattle.std.specs.Str.Parse.{AllDigits, digits_value}
 use Rattle.std.specs.Char.{digit_value}
 use Rattle.std.specs.List.{between, AllByRecursion}
-use Rattle.geometry.specs.declared.refusal.Refusal.TheVariants.{UnknownKind, Misfit}
+use Rattle.geometry.specs.Lines.{Sized, Within}
+use Rattle.geometry.specs.declared.refusal.Refusal.TheVariants.{UnknownKind, Misfit, Size, PastMemory}
 use Rattle.notations.specs.Bytes.{Blank, Figures, Indent, Longest}
-use Rattle.notations.specs.Grammar.{Reading, Begins, Refuses, One}
+use Rattle.notations.specs.Grammar.{Reading, Begins, Refuses, Means, told, refused, One}
 use Rattle.notations.specs.Lackey.{prefix, LackeyRecord, lackey, Unopened, Commented, Letter}
 use Rattle.notations.specs.declared.line.Kind.{Kind}
 use Rattle.notations.specs.declared.line.Kind.TheVariants.{Fetch, Load, Store, Modify}
@@ -101,6 +102,26 @@ fetch_lead : lackey.lead (73 ∷ []) → ⊥
 unfolding lackey
 fetch_lead lead = ⊎_elim (λ e. let n = ap length e in omega arith) (λ e. let n = ap (λ l. slice_index l 0) e in omega arith) lead
 
+-- a line that a kind opens is not skipped
+pub opened_told : (k : Kind) (rest : List ℕ) → lackey.skips (prefix k ++ rest) → ⊥
+unfolding lackey
+opened_told Fetch rest h = ⊎_elim (λ b. solid b.0) (λ e. let n = ap (λ l. slice_index l 0) e.1 in omega arith) h
+  where
+    solid : Blank 73 → ⊥
+    solid b = grind arith
+opened_told Load rest h = ⊎_elim (λ b. solid b.1.0) (λ e. let n = ap (λ l. slice_index l 0) e.1 in omega arith) h
+  where
+    solid : Blank 76 → ⊥
+    solid b = grind arith
+opened_told Store rest h = ⊎_elim (λ b. solid b.1.0) (λ e. let n = ap (λ l. slice_index l 0) e.1 in omega arith) h
+  where
+    solid : Blank 83 → ⊥
+    solid b = grind arith
+opened_told Modify rest h = ⊎_elim (λ b. solid b.1.0) (λ e. let n = ap (λ l. slice_index l 0) e.1 in omega arith) h
+  where
+    solid : Blank 77 → ⊥
+    solid b = grind arith
+
 -- What the reader has seen after a kind: n digits; a comma; m digits of a size.
 pub figures_of : (radix most : ℕ) (bs : List ℕ) (n v : ℕ) → Longest radix most bs n v → 0 < n → Figures radix most (take n bs)
 figures_of radix most bs n v h any =
@@ -112,53 +133,63 @@ dies_digit : (radix n : ℕ) (K : List ℕ → Type 0) (r : List ℕ) → (0 < l
 dies_digit radix n K [] stops = λ k. k
 dies_digit radix n K (b ∷ bs) stops = λ rest k. let low = k.0 in let high = stops (omega arith) in omega arith
 
-pub no_digits : (k : Kind) (rest : List ℕ) (n v : ℕ) → Longest 16 16 rest n v → n ≡ 0 → Refuses lackey (prefix k ++ rest) Misfit 4
+pub no_digits : (k : Kind) (rest : List ℕ) (n v : ℕ) → Longest 16 16 rest n v → n ≡ 0 → Means lackey (prefix k ++ rest) (refused Misfit 4)
 unfolding lackey
 no_digits k rest n v h none =
     let stops : 0 < length rest → 16 ≤ digit_value (slice_index rest 0) = λ l. subst (λ j. j < length rest → j < 16 → 16 ≤ digit_value (slice_index rest j)) none h.stops l (omega arith) in
-    let long = long_prefix k in
-    misfit lackey (prefix k ++ rest) (prefix k) rest 3 refl long
-    (misfits lackey AtAddress (prefix k) rest (begins (prefix k) (48 ∷ (44 ∷ (48 ∷ []))) k (48 ∷ []) (48 ∷ []) refl zero_address zero_size) (road k) (dies_digit 16 15 AtComma rest stops))
-    (long_lead (prefix k) (omega arith))
+    let long = long_prefix k in (
+      opened_told k rest,
+      misfit lackey (prefix k ++ rest) (prefix k) rest 3 refl long
+          (misfits lackey AtAddress (prefix k) rest (begins (prefix k) (48 ∷ (44 ∷ (48 ∷ []))) k (48 ∷ []) (48 ∷ []) refl zero_address zero_size) (road k) (dies_digit 16 15 AtComma rest stops))
+          (long_lead (prefix k) (omega arith)),
+    )
 
-dies_comma : (m : ℕ) (r : List ℕ) → (0 < length r → 0 < m → 16 ≤ digit_value (slice_index r 0)) → ((bs : List ℕ) → r ≢ 44 ∷ bs) → Dies (More 16 m AtComma) r
+dies_comma : (m : ℕ) (r : List ℕ) → (0 < length r → 0 < m → 16 ≤ digit_value (slice_index r 0)) → (0 < length r → slice_index r 0 ≢ 44) → Dies (More 16 m AtComma) r
 dies_comma m [] stops other = λ k. more_end 16 m AtComma k
-dies_comma m (b ∷ bs) stops other = λ rest k. other bs (ap (λ x. x ∷ bs) (more_done 16 m AtComma b rest (stops (omega arith)) k).0)
+dies_comma m (b ∷ bs) stops other = λ rest k. other (omega arith) (more_done 16 m AtComma b rest (stops (omega arith)) k).0
 
-pub no_comma : (k : Kind) (rest : List ℕ) (n v : ℕ) → Longest 16 16 rest n v → 0 < n → ((bs : List ℕ) → between n (length rest) rest ≢ 44 ∷ bs) → Refuses lackey (prefix k ++ rest) Misfit (4 + n)
+pub no_comma : (k : Kind) (rest end : List ℕ) (n v : ℕ) → Longest 16 16 rest n v → 0 < n → end ≡ drop n rest → (0 < length end → slice_index end 0 ≢ 44) → Means lackey (prefix k ++ rest) (refused Misfit (4 + n))
 unfolding lackey
-no_comma k rest n v h any other =
+no_comma k rest end n v h any end_is other =
     let ds = take n rest in
-    let r = drop n rest in
     let m = 16 - n in
     let few = h.few in
     let long = length-take-le n rest h.within in
     let front = long_prefix k in
     let all : length (prefix k ++ ds) ≡ 3 + n = simp length-append (omega arith) in
-    let shape : prefix k ++ rest ≡ (prefix k ++ ds) ++ r = ap (λ x. prefix k ++ x) (sym (take-append-drop n rest)) ∙ sym (append_assoc (prefix k) ds r) in
-    let there : slice_index_or r 0 0 ≡ slice_index_or rest n 0 = get_or-drop n rest 0 0 ∙ (let z : n + 0 ≡ n = omega arith in ap (λ j. slice_index rest j) z) in
-    let left : length r ≡ length rest - n = length-drop n rest in
-    let stops : 0 < length r → 0 < m → 16 ≤ digit_value (slice_index r 0) = λ l room. subst (λ b. 16 ≤ digit_value b) (sym there) (h.stops (omega arith) (omega arith)) in
-    let column : 3 + n + 1 ≡ 4 + n = omega arith in
-    subst (Refuses lackey (prefix k ++ rest) Misfit) column
-    (misfit lackey (prefix k ++ rest) (prefix k ++ ds) r (3 + n) shape all
-    (misfits lackey (More 16 m AtComma) (prefix k ++ ds) r (begins (prefix k ++ ds) (44 ∷ (48 ∷ [])) k ds (48 ∷ []) (append_assoc (prefix k) ds (44 ∷ (48 ∷ []))) (figures_of 16 16 rest n v h any) zero_size)
-    (λ x t d. after_digits k ds m h.digits (omega arith) (omega arith) x t (subst (λ l. LackeyRecord l t) (append_assoc (prefix k) ds x) d))
-    (dies_comma m r stops (λ bs e. other bs (take_rest rest n ∙ e))))
-    (long_lead (prefix k ++ ds) (omega arith)))
+    let shape : prefix k ++ rest ≡ (prefix k ++ ds) ++ end = ap (λ x. prefix k ++ x) (sym (take-append-drop n rest) ∙ ap (λ x. ds ++ x) (sym end_is)) ∙ sym (append_assoc (prefix k) ds end) in
+    let there : slice_index_or end 0 0 ≡ slice_index_or rest n 0 = ap (λ x. slice_index x 0) end_is ∙ get_or-drop n rest 0 0 ∙ (let z : n + 0 ≡ n = omega arith in ap (λ j. slice_index rest j) z) in
+    let left : length end ≡ length rest - n = ap length end_is ∙ length-drop n rest in
+    let stops : 0 < length end → 0 < m → 16 ≤ digit_value (slice_index end 0) = λ l room. subst (λ b. 16 ≤ digit_value b) (sym there) (h.stops (omega arith) (omega arith)) in
+    let column : 3 + n + 1 ≡ 4 + n = omega arith in (
+      opened_told k rest,
+      subst (Refuses lackey (prefix k ++ rest) Misfit) column
+          (misfit lackey (prefix k ++ rest) (prefix k ++ ds) end (3 + n) shape all
+          (misfits lackey (More 16 m AtComma) (prefix k ++ ds) end (begins (prefix k ++ ds) (44 ∷ (48 ∷ [])) k ds (48 ∷ []) (append_assoc (prefix k) ds (44 ∷ (48 ∷ []))) (figures_of 16 16 rest n v h any) zero_size)
+          (λ x t d. after_digits k ds m h.digits (omega arith) (omega arith) x t (subst (λ l. LackeyRecord l t) (append_assoc (prefix k) ds x) d))
+          (dies_comma m end stops other))
+          (long_lead (prefix k ++ ds) (omega arith))),
+    )
 
 -- after the comma: rest is the digits, the comma, sized
 pub record SizedPart (rest sized : List ℕ) (n v m w : ℕ) : Type 0 where
   pub digits : Longest 16 16 rest n v
   pub any : 0 < n
-  pub comma : between n (length rest) rest ≡ 44 ∷ sized
+  pub comma : rest ≡ take n rest ++ 44 ∷ sized
   pub size : Longest 10 3 sized m w
 
-pub sized_part : {rest sized : List ℕ} {n v m w : ℕ} → Longest 16 16 rest n v → 0 < n → between n (length rest) rest ≡ 44 ∷ sized → Longest 10 3 sized m w → SizedPart rest sized n v m w
-sized_part digits any comma size = record { digits = digits; any = any; comma = comma; size = size }
+first_and_rest : (bs : List ℕ) (a : ℕ) → 1 ≤ length bs → slice_index bs 0 ≡ a → bs ≡ a ∷ between 1 (length bs) bs
+first_and_rest [] a long e = absurd (omega arith)
+first_and_rest (x ∷ bs) a long e = (λ i. e i ∷ bs) ∙ ap (λ r. a ∷ r) (sym (take_rest (x ∷ bs) 1))
 
-parts : (rest sized : List ℕ) (n v m w : ℕ) → SizedPart rest sized n v m w → rest ≡ take n rest ++ 44 ∷ sized
-parts rest sized n v m w s = sym (take-append-drop n rest) ∙ ap (λ x. take n rest ++ x) (sym (take_rest rest n) ∙ s.comma)
+-- the parts as the reader cuts them
+pub sized_part : {rest end : List ℕ} {n v m w : ℕ} → Longest 16 16 rest n v → 0 < n → end ≡ drop n rest → 1 ≤ length end → slice_index end 0 ≡ 44 → Longest 10 3 (between 1 (length end) end) m w → SizedPart rest (between 1 (length end) end) n v m w
+sized_part {rest} {end} {n} {v} {m} {w} digits any end_is some comma size = record {
+  digits = digits;
+  any = any;
+  comma = sym (take-append-drop n rest) ∙ ap (λ x. take n rest ++ x) (sym end_is ∙ first_and_rest end 44 some comma);
+  size = size;
+}
 
 no_size : (k : Kind) (rest sized : List ℕ) (n v m w : ℕ) → SizedPart rest sized n v m w → m ≡ 0 → Refuses lackey (prefix k ++ rest) Misfit (4 + n + 1 + m)
 unfolding lackey
@@ -167,7 +198,7 @@ no_size k rest sized n v m w s none =
     let p = prefix k ++ (ds ++ 44 ∷ []) in
     let figures = figures_of 16 16 rest n v s.digits s.any in
     let joined : (x : List ℕ) → p ++ x ≡ prefix k ++ (ds ++ 44 ∷ x) = λ x. append_assoc (prefix k) (ds ++ 44 ∷ []) x ∙ ap (λ y. prefix k ++ y) (append_assoc ds (44 ∷ []) x) in
-    let shape : prefix k ++ rest ≡ p ++ sized = ap (λ x. prefix k ++ x) (parts rest sized n v m w s) ∙ sym (joined sized) in
+    let shape : prefix k ++ rest ≡ p ++ sized = ap (λ x. prefix k ++ x) s.comma ∙ sym (joined sized) in
     let stops : 0 < length sized → 10 ≤ digit_value (slice_index sized 0) = λ l. subst (λ j. j < length sized → j < 3 → 10 ≤ digit_value (slice_index sized j)) none s.size.stops l (omega arith) in
     let long = length-take-le n rest s.digits.within in
     let front = long_prefix k in
@@ -194,7 +225,7 @@ no_end k rest sized n v m w s some inside =
     let counted = figures_of 10 3 sized m w s.size some in
     let joined : (x : List ℕ) → p ++ x ≡ prefix k ++ (ds ++ 44 ∷ (zs ++ x)) = λ x. append_assoc (prefix k) (ds ++ 44 ∷ zs) x ∙ ap (λ y. prefix k ++ y) (append_assoc ds (44 ∷ zs) x) in
     let cut : sized ≡ zs ++ b ∷ r = sym (take-append-drop m sized) ∙ ap (λ x. zs ++ x) (drop_more sized m 0 inside) in
-    let shape : prefix k ++ rest ≡ p ++ b ∷ r = ap (λ x. prefix k ++ x) (parts rest sized n v m w s ∙ ap (λ x. ds ++ 44 ∷ x) cut) ∙ sym (joined (b ∷ r)) in
+    let shape : prefix k ++ rest ≡ p ++ b ∷ r = ap (λ x. prefix k ++ x) (s.comma ∙ ap (λ x. ds ++ 44 ∷ x) cut) ∙ sym (joined (b ∷ r)) in
     let long = length-take-le n rest s.digits.within in
     let short = length-take-le m sized s.size.within in
     let front = long_prefix k in
@@ -207,52 +238,36 @@ no_end k rest sized n v m w s some inside =
     (λ x q. more_done 10 j AtEnd b x (λ room. s.size.stops inside (omega arith)) q))
     (long_lead p (omega arith)))
 
-pub size_misfit : (k : Kind) (rest sized : List ℕ) (n v m w : ℕ) → SizedPart rest sized n v m w → (m ≡ 0) ⊎ ((m ≢ 0) × (m < length sized)) → Refuses lackey (prefix k ++ rest) Misfit (4 + n + 1 + m)
-size_misfit k rest sized n v m w s bad =
-    ⊎_elim (no_size k rest sized n v m w s) (λ q. no_end k rest sized n v m w s (let z = q.0 in omega arith) q.1) bad
+pub size_misfit : {rest sized : List ℕ} {n v m w : ℕ} (k : Kind) → SizedPart rest sized n v m w → (m ≡ 0) ⊎ ((m ≢ 0) × (m < length sized)) → Means lackey (prefix k ++ rest) (refused Misfit (4 + n + 1 + m))
+size_misfit {rest} {sized} {n} {v} {m} {w} k s bad =
+    (opened_told k rest, ⊎_elim (no_size k rest sized n v m w s) (λ q. no_end k rest sized n v m w s (let z = q.0 in omega arith) q.1) bad)
 
-pub a_record : (k : Kind) (rest sized : List ℕ) (n v m w : ℕ) → SizedPart rest sized n v m w → 0 < m → length sized ≤ m → lackey.records (prefix k ++ rest) (record { kind = k; address = v; size = w; digits = between 0 n rest; column = 4 })
+record_is : {rest sized : List ℕ} {n v m w : ℕ} (k : Kind) → SizedPart rest sized n v m w → 0 < m → length sized ≤ m → lackey.records (prefix k ++ rest) (record { kind = k; address = v; size = w; digits = take n rest; column = 4 })
 unfolding lackey
-a_record k rest sized n v m w s some whole =
-    let zero_off : n - 0 ≡ n = omega arith in
-    let is : between 0 n rest ≡ take n rest = ap (λ j. take j rest) zero_off in
+record_is {rest} {sized} {n} {v} {m} {w} k s some whole =
     let end : take m sized ≡ sized = take_all m sized whole in
     record {
       sized = sized;
-      shape = ap (λ x. prefix k ++ x) (parts rest sized n v m w s ∙ ap (λ x. x ++ 44 ∷ sized) (sym is));
-      figures = subst (Figures 16 16) (sym is) (figures_of 16 16 rest n v s.digits s.any);
+      shape = ap (λ x. prefix k ++ x) s.comma;
+      figures = figures_of 16 16 rest n v s.digits s.any;
       counted = subst (Figures 10 3) end (figures_of 10 3 sized m w s.size some);
-      address = s.digits.is ∙ ap (digits_value 16) (sym is);
+      address = s.digits.is;
       size = s.size.is ∙ ap (digits_value 10) end;
       column = refl;
     }
 
--- the column of the size, as the refusal of a size has it
-pub size_column : (rest : List ℕ) (n : ℕ) → n ≤ length rest → 4 + n + 1 ≡ 4 + length (between 0 n rest) + 1
-size_column rest n h =
-    let zero_off : n - 0 ≡ n = omega arith in
-    let long : length (between 0 n rest) ≡ n = ap (λ j. length (take j rest)) zero_off ∙ length-take-le n rest h in
-    omega arith
+pub wrong_size : {rest sized : List ℕ} {n v m w : ℕ} (k : Kind) → SizedPart rest sized n v m w → 0 < m → length sized ≤ m → (Sized w → ⊥) → Means lackey (prefix k ++ rest) (refused Size (4 + n + 1))
+wrong_size {rest} {sized} {n} {v} {m} {w} k s some whole unsized =
+    let long = length-take-le n rest s.digits.within in
+    let column : 4 + n + 1 ≡ 4 + length (take n rest) + 1 = omega arith in
+    (opened_told k rest, inr (inr (inl (refl, (_, record_is k s some whole, unsized, column)))))
 
--- a line that a kind opens is not skipped
-pub opened_told : (k : Kind) (rest : List ℕ) → lackey.skips (prefix k ++ rest) → ⊥
-unfolding lackey
-opened_told Fetch rest h = ⊎_elim (λ b. solid b.0) (λ e. let n = ap (λ l. slice_index l 0) e.1 in omega arith) h
-  where
-    solid : Blank 73 → ⊥
-    solid b = grind arith
-opened_told Load rest h = ⊎_elim (λ b. solid b.1.0) (λ e. let n = ap (λ l. slice_index l 0) e.1 in omega arith) h
-  where
-    solid : Blank 76 → ⊥
-    solid b = grind arith
-opened_told Store rest h = ⊎_elim (λ b. solid b.1.0) (λ e. let n = ap (λ l. slice_index l 0) e.1 in omega arith) h
-  where
-    solid : Blank 83 → ⊥
-    solid b = grind arith
-opened_told Modify rest h = ⊎_elim (λ b. solid b.1.0) (λ e. let n = ap (λ l. slice_index l 0) e.1 in omega arith) h
-  where
-    solid : Blank 77 → ⊥
-    solid b = grind arith
+pub past_memory : {rest sized : List ℕ} {n v m w : ℕ} (k : Kind) → SizedPart rest sized n v m w → 0 < m → length sized ≤ m → Sized w → (Within v w → ⊥) → Means lackey (prefix k ++ rest) (refused PastMemory 4)
+past_memory k s some whole sized past = (opened_told k _, inr (inr (inr (refl, (_, record_is k s some whole, sized, past, refl)))))
+
+pub a_record : {rest sized ds : List ℕ} {n v m w : ℕ} (k : Kind) → SizedPart rest sized n v m w → 0 < m → length sized ≤ m → ds ≡ take n rest → Sized w → Within v w → Means lackey (prefix k ++ rest) (told (record { kind = k; address = v; size = w; digits = ds; column = 4 }))
+a_record {rest} {sized} {ds} {n} {v} {m} {w} k s some whole is sized_is within =
+    (opened_told k rest, subst (λ d. lackey.records (prefix k ++ rest) (record { kind = k; address = v; size = w; digits = d; column = 4 })) (sym is) (record_is k s some whole), sized_is, within)
 
 one_record : (line : List ℕ) (t u : Reading) → LackeyRecord line t → LackeyRecord line u → t ≡ u
 one_record line t u d e =
@@ -377,20 +392,6 @@ letter_misfits line long a l shut = fault_letter line (slice_index line 1) (drop
 
 pub letter_unknown : (line : List ℕ) → 1 < length line → slice_index line 0 ≡ 32 → (Letter (slice_index line 1) → ⊥) → Refuses lackey line UnknownKind 2
 letter_unknown line long a other = fault_kind line (slice_index line 1) (drop 2 line) (two line long ∙ (λ i. a i ∷ (slice_index line 1 ∷ drop 2 line))) other
-
--- a line by its first bytes and the rest, as a slice pattern gives them
-pub one_and_rest : (bs : List ℕ) (a : ℕ) → 1 ≤ length bs → slice_index bs 0 ≡ a → bs ≡ a ∷ between 1 (length bs) bs
-one_and_rest [] a long e = absurd (omega arith)
-one_and_rest (x ∷ bs) a long e = (λ i. e i ∷ bs) ∙ ap (λ r. a ∷ r) (sym (take_rest (x ∷ bs) 1))
-
-pub three_and_rest : (bs : List ℕ) (a b c : ℕ) → 3 ≤ length bs → slice_index bs 0 ≡ a → slice_index bs 1 ≡ b → slice_index bs 2 ≡ c → bs ≡ a ∷ b ∷ c ∷ between 3 (length bs) bs
-three_and_rest [] a b c long ea eb ec = absurd (omega arith)
-three_and_rest (x ∷ []) a b c long ea eb ec = absurd (omega arith)
-three_and_rest (x ∷ y ∷ []) a b c long ea eb ec = absurd (omega arith)
-three_and_rest (x ∷ y ∷ z ∷ bs) a b c long ea eb ec = (λ i. ea i ∷ eb i ∷ ec i ∷ bs) ∙ ap (λ r. a ∷ b ∷ c ∷ r) (sym (take_rest (x ∷ y ∷ z ∷ bs) 3))
-
-pub two_equals : (line : List ℕ) → 1 < length line → slice_index line 0 ≡ 61 → slice_index line 1 ≡ 61 → Commented line
-two_equals line long a b = (drop 2 line, two line long ∙ (λ i. a i ∷ (b i ∷ drop 2 line)))
 
 -- a blank line is skipped; one that is neither blank nor a comment is not
 pub blank_skips : (line : List ℕ) (n : ℕ) → Indent line n → n ≡ length line → lackey.skips line

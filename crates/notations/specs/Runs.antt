@@ -1,5 +1,5 @@
 -- Runs of bytes: how a line can go on after some of it, and that a run ends at one place only.
-use Rattle.std.specs.Prelude.{◌≡◌, ℕ, zero, suc, ◌+◌, ◌<◌, ◌≤◌, Bool, true, false, ◌⊎◌, List, [], ◌∷◌, ◌++◌, length, refl}
+use Rattle.std.specs.Prelude.{◌≡◌, ℕ, zero, suc, ◌+◌, ◌<◌, ◌≤◌, ◌⊎◌, List, [], ◌∷◌, ◌++◌, length, refl}
 use Rattle.std.proofs.Common.{sym, ap, subst, inl, inr, ⊎_elim, arith}
 use Rattle.std.specs.Str.Parse.{AllDigits}
 use Rattle.std.specs.Char.{digit_value}
@@ -102,7 +102,3 @@ all_here P (x ∷ xs) y ys h = all_here P xs y ys h.1
 pub digit_solid : (radix b : ℕ) → radix ≤ 36 → digit_value b < radix → Blank b → ⊥
 digit_solid radix b small low blank =
     ⊎_elim (λ e. let v : digit_value b ≡ 36 = ap digit_value e in omega arith) (λ e. let v : digit_value b ≡ 36 = ap digit_value e in omega arith) blank
-
--- what a failed test decides does not hold
-pub denied : {P : Type 0} (r : Bool) → r ≡ false → (P → r ≡ true) → P → ⊥
-denied r e f p = let t = f p in let z : ◌≡◌ {A = ℕ} 0 1 = cc in omega arith

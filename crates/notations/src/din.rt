@@ -17,10 +17,10 @@ pub struct Din;
 fn kind_of(byte: u8) -> Option<Kind>
     ensures { MatchOption result ((k : Kind) → label k ≢ Known byte) (λ k. label k ≡ Known byte) }
 {
-    match byte as char {
-        '0' => Some(Kind::Load),
-        '1' => Some(Kind::Store),
-        '2' => Some(Kind::Fetch),
+    match byte {
+        b'0' => Some(Kind::Load),
+        b'1' => Some(Kind::Store),
+        b'2' => Some(Kind::Fetch),
         _ => None,
     }
 }
@@ -32,37 +32,28 @@ impl Notation for Din {
 
     fn read<'t>(&self, line: &'t [u8]) -> Result<Option<Record<'t>>, LineFault> {
         let before = indent(line);
-        if before == line.len() {
+        let [label, after @ ..] = &line[before..] else {
             return Ok(None);
-        }
-        let Some(kind) = kind_of(line[before]) else {
-            return Err(LineFault {
-                cause: Refusal::UnknownKind,
-                column: before + 1,
-            });
         };
-        let after = &line[before + 1..];
+        let Some(kind) = kind_of(*label) else {
+            return Err(LineFault::new(Refusal::UnknownKind, before + 1));
+        };
         let gap = indent(after);
         let rest = &after[gap..];
         let Numeral { count, value } = figures(rest, 16, 16);
         let column = before + gap + 2;
         if gap == 0 || count == 0 {
-            return Err(LineFault {
-                cause: Refusal::Misfit,
-                column,
-            });
+            return Err(LineFault::new(Refusal::Misfit, column));
         }
-        if !stops(&rest[count..]) {
-            return Err(LineFault {
-                cause: Refusal::Misfit,
-                column: column + count,
-            });
+        let (digits, end) = rest.split_at(count);
+        if !stops(end) {
+            return Err(LineFault::new(Refusal::Misfit, column + count));
         }
         Ok(Some(Record {
             kind,
             address: Address(value),
             size: 1,
-            digits: &rest[0..count],
+            digits,
             column,
         }))
     }

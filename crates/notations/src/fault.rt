@@ -17,6 +17,14 @@ pub struct TextFault {
     pub line: usize,
 }
 
+impl LineFault {
+    pub(crate) fn new(cause: Refusal, column: usize) -> LineFault
+        ensures { result ≡ record { cause = cause; column = column } }
+    {
+        LineFault { cause, column }
+    }
+}
+
 impl From<(LineFault, usize)> for TextFault {
     ghost from_gives = { λ e r. r ≡ record { fault = e.0; line = e.1 } };
 

@@ -1,7 +1,7 @@
-ghost use Rattle.std.specs.Prelude.{◌≡◌, ℕ, List, ◌∷◌, ◌++◌, Decides, MatchOption, ◌≢◌};
+ghost use Rattle.std.specs.Prelude.{◌≡◌, ℕ, List, ◌++◌, IsTrue, ◌↔◌, MatchOption, ◌≢◌};
 ghost use Rattle.notations.specs.Bytes.{Blank};
 ghost use Rattle.notations.specs.Grammar.{Means, Refuses, said};
-ghost use Rattle.notations.specs.Lackey.{lackey, prefix, Unopened, Commented, Letter};
+ghost use Rattle.notations.specs.Lackey.{lackey, prefix, Unopened, Commented};
 ghost use Rattle.std.specs.List.{AllByRecursion};
 ghost use Rattle.notations.specs.LackeyMeans.{lackey_one};
 
@@ -26,103 +26,60 @@ impl Notation for Lackey {
 
     fn read<'t>(&self, line: &'t [u8]) -> Result<Option<Record<'t>>, LineFault> {
         match opening(line) {
-            Some(Opened { kind, rest }) => access(kind, rest),
+            Some((kind, rest)) => access(kind, rest),
             None => unopened(line),
         }
     }
 }
 
-// A line whose first three bytes tell its kind.
-#[derive(Clone, Copy)]
-struct Opened<'t> {
-    kind: Kind,
-    rest: &'t [u8],
-}
-
-fn opening<'t>(line: &'t [u8]) -> Option<Opened<'t>>
-    ensures { MatchOption result (Unopened line.now) (λ o. line.now ≡ prefix o.kind ++ o.rest.now) }
+// The kind of a line that its first three bytes tell, and the bytes after them.
+fn opening(line: &[u8]) -> Option<(Kind, &[u8])>
+    ensures { MatchOption result (Unopened line.now) (λ opened. line.now ≡ prefix opened.0 ++ opened.1.now) }
 {
     match line {
-        [b'I', b' ', b' ', rest @ ..] => Some(Opened {
-            kind: Kind::Fetch,
-            rest,
-        }),
-        [b' ', letter, b' ', rest @ ..] => match *letter as char {
-            'L' => Some(Opened {
-                kind: Kind::Load,
-                rest,
-            }),
-            'S' => Some(Opened {
-                kind: Kind::Store,
-                rest,
-            }),
-            'M' => Some(Opened {
-                kind: Kind::Modify,
-                rest,
-            }),
-            _ => None,
-        },
+        [b'I', b' ', b' ', rest @ ..] => Some((Kind::Fetch, rest)),
+        [b' ', b'L', b' ', rest @ ..] => Some((Kind::Load, rest)),
+        [b' ', b'S', b' ', rest @ ..] => Some((Kind::Store, rest)),
+        [b' ', b'M', b' ', rest @ ..] => Some((Kind::Modify, rest)),
         _ => None,
     }
 }
 
 // The rest of a line after its kind: the address, a comma, the size, the end.
-fn access<'t>(kind: Kind, rest: &'t [u8]) -> Result<Option<Record<'t>>, LineFault>
+fn access(kind: Kind, rest: &[u8]) -> Result<Option<Record<'_>>, LineFault>
     ensures { Means lackey (prefix kind ++ rest.now) (said result) }
 {
     let Numeral { count, value } = figures(rest, 16, 16);
     if count == 0 {
-        return Err(LineFault {
-            cause: Refusal::Misfit,
-            column: ADDRESS,
-        });
+        return Err(LineFault::new(Refusal::Misfit, ADDRESS));
     }
-    let Some(sized) = after_comma(&rest[count..]) else {
-        return Err(LineFault {
-            cause: Refusal::Misfit,
-            column: ADDRESS + count,
-        });
+    let (digits, end) = rest.split_at(count);
+    let [b',', sized @ ..] = end else {
+        return Err(LineFault::new(Refusal::Misfit, ADDRESS + count));
     };
     let size = figures(sized, 10, 3);
     let column = ADDRESS + count + 1;
     if size.count == 0 || size.count < sized.len() {
-        return Err(LineFault {
-            cause: Refusal::Misfit,
-            column: column + size.count,
-        });
+        return Err(LineFault::new(Refusal::Misfit, column + size.count));
     }
     if size.value < 1 || size.value > 256 {
-        return Err(LineFault {
-            cause: Refusal::Size,
-            column,
-        });
+        return Err(LineFault::new(Refusal::Size, column));
     }
-    if value > u64::MAX - (size.value - 1) {
-        return Err(LineFault {
-            cause: Refusal::PastMemory,
-            column: ADDRESS,
-        });
+    if value.checked_add(size.value - 1).is_none() {
+        return Err(LineFault::new(Refusal::PastMemory, ADDRESS));
     }
     Ok(Some(Record {
         kind,
         address: Address(value),
         size: size.value,
-        digits: &rest[0..count],
+        digits,
         column: ADDRESS,
     }))
 }
 
-fn after_comma<'t>(bytes: &'t [u8]) -> Option<&'t [u8]>
-    ensures { MatchOption result ((bs : List ℕ) → bytes.now ≢ 44 ∷ bs) (λ rest. bytes.now ≡ 44 ∷ rest.now) }
-{
-    match bytes {
-        [b',', rest @ ..] => Some(rest),
-        _ => None,
-    }
-}
-
 // A line that no kind opens is skipped, or refused for the first byte that could not open one.
-fn unopened<'t>(line: &'t [u8]) -> Result<Option<Record<'t>>, LineFault>
+#[tactic(auto, using(crate::specs::LackeyMeans::blank_skips, crate::specs::LackeyMeans::comment_skips, crate::specs::LackeyMeans::solid_line))]
+fn unopened(line: &[u8]) -> Result<Option<Record<'_>>, LineFault>
     requires { Unopened line.now }
     ensures { Means lackey line.now (said result) }
 {
@@ -133,49 +90,21 @@ fn unopened<'t>(line: &'t [u8]) -> Result<Option<Record<'t>>, LineFault>
 }
 
 fn is_comment(line: &[u8]) -> bool
-    ensures { Decides result (Commented line.now) }
+    ensures { IsTrue result ↔ Commented line.now }
 {
-    match line {
-        [b'=', b'=', ..] => true,
-        _ => false,
-    }
+    line.starts_with(b"==")
 }
 
 fn opening_fault(line: &[u8]) -> LineFault
-    requires { Unopened line.now × (AllByRecursion Blank line.now → ⊥) }
+    requires unopened { Unopened line.now }
+    requires solid { AllByRecursion Blank line.now → ⊥ }
     ensures { Refuses lackey line.now result.cause result.column }
 {
     match line {
-        [b'I', b' ', ..] => LineFault {
-            cause: Refusal::Misfit,
-            column: 3,
-        },
-        [b'I', ..] => LineFault {
-            cause: Refusal::Misfit,
-            column: 2,
-        },
-        [b' ', letter, ..] => {
-            if is_letter(*letter) {
-                LineFault {
-                    cause: Refusal::Misfit,
-                    column: 3,
-                }
-            } else {
-                LineFault {
-                    cause: Refusal::UnknownKind,
-                    column: 2,
-                }
-            }
-        }
-        _ => LineFault {
-            cause: Refusal::UnknownKind,
-            column: 1,
-        },
+        [b'I', b' ', ..] => LineFault::new(Refusal::Misfit, 3),
+        [b'I', ..] => LineFault::new(Refusal::Misfit, 2),
+        [b' ', b'L' | b'S' | b'M', ..] => LineFault::new(Refusal::Misfit, 3),
+        [b' ', _, ..] => LineFault::new(Refusal::UnknownKind, 2),
+        _ => LineFault::new(Refusal::UnknownKind, 1),
     }
-}
-
-fn is_letter(byte: u8) -> bool
-    ensures { Decides result (Letter byte) }
-{
-    matches!(byte as char, 'L' | 'S' | 'M')
 }

@@ -1,32 +1,27 @@
-ghost use Rattle.std.specs.Prelude.{◌^◌, ◌<◌, ◌≤◌, Decides};
+ghost use Rattle.std.specs.Prelude.{◌^◌, ◌<◌, ◌≤◌, IsTrue, ◌↔◌};
 ghost use Rattle.notations.specs.Bytes.{Blank, Stops, Indent, Longest};
 
 fn is_blank(byte: u8) -> bool
-    ensures { Decides result (Blank byte) }
+    ensures { IsTrue result ↔ Blank byte }
 {
     byte == b' ' || byte == b'\t'
 }
 
 // Whether a line may stop before these bytes: they are none, or begin with a blank.
 pub(crate) fn stops(bytes: &[u8]) -> bool
-    ensures { Decides result (Stops bytes.now) }
+    ensures { IsTrue result ↔ Stops bytes.now }
 {
-    match bytes {
-        [] => true,
-        [first, ..] => is_blank(*first),
-    }
+    bytes.first().is_none_or(|byte| is_blank(*byte))
 }
 
 // How many blanks the bytes begin with.
 pub(crate) fn indent(bytes: &[u8]) -> usize
     ensures { Indent bytes.now result }
 {
-    for (i, byte) in bytes.iter().enumerate() {
-        if !is_blank(*byte) {
-            return i;
-        }
-    }
-    bytes.len()
+    bytes
+        .iter()
+        .position(|byte| !is_blank(*byte))
+        .unwrap_or(bytes.len())
 }
 
 // The digits that some bytes begin with, by their number, and what they write.
@@ -38,13 +33,15 @@ pub(crate) struct Numeral {
 
 // The longest front of digits, of which no more than `most` are read.
 pub(crate) fn figures(bytes: &[u8], radix: u32, most: usize) -> Numeral
-    requires { (2 ≤ radix) × (radix ≤ 16) × (radix ^ most ≤ 2 ^ 64) }
+    requires least { 2 ≤ radix }
+    requires greatest { radix ≤ 16 }
+    requires fits { radix ^ most ≤ 2 ^ 64 }
     ensures { Longest radix most bytes.now result.count result.value }
 {
     let limit = most.min(bytes.len());
     let mut value = 0;
-    for count in 0..limit {
-        let Some(digit) = (bytes[count] as char).to_digit(radix) else {
+    for (count, byte) in bytes[..limit].iter().enumerate() {
+        let Some(digit) = (*byte as char).to_digit(radix) else {
             return Numeral { count, value };
         };
         value = value * radix as u64 + digit as u64;

@@ -1,198 +1,69 @@
-use crate::tests::seen::{Case, Seen, agree};
+use crate::tests::seen::{access, agree, refused, skipped};
+use geometry::refusal::Refusal::{Misfit, UnknownKind};
 use notations::din::Din;
 use notations::format::Format;
-
-const CASES: [Case; 36] = [
-    // lines of blanks only
-    Case {
-        line: b"",
-        seen: Seen::Skipped,
-        digits: b"",
-    },
-    Case {
-        line: b"   ",
-        seen: Seen::Skipped,
-        digits: b"",
-    },
-    Case {
-        line: b"\t \t",
-        seen: Seen::Skipped,
-        digits: b"",
-    },
-    // labels
-    Case {
-        line: b"0 10",
-        seen: Seen::Access('L', 0x10, 1, 3),
-        digits: b"10",
-    },
-    Case {
-        line: b"1 10",
-        seen: Seen::Access('S', 0x10, 1, 3),
-        digits: b"10",
-    },
-    Case {
-        line: b"2 10",
-        seen: Seen::Access('I', 0x10, 1, 3),
-        digits: b"10",
-    },
-    Case {
-        line: b"3 10",
-        seen: Seen::Refused(12, 1),
-        digits: b"",
-    },
-    Case {
-        line: b"4 10",
-        seen: Seen::Refused(12, 1),
-        digits: b"",
-    },
-    Case {
-        line: b"  4 10",
-        seen: Seen::Refused(12, 3),
-        digits: b"",
-    },
-    Case {
-        line: b"L 10",
-        seen: Seen::Refused(12, 1),
-        digits: b"",
-    },
-    Case {
-        line: b"==1== x",
-        seen: Seen::Refused(12, 1),
-        digits: b"",
-    },
-    Case {
-        line: b"\r",
-        seen: Seen::Refused(12, 1),
-        digits: b"",
-    },
-    // blanks before and after the label
-    Case {
-        line: b"\t0 10",
-        seen: Seen::Access('L', 0x10, 1, 4),
-        digits: b"10",
-    },
-    Case {
-        line: b"0\t \t10",
-        seen: Seen::Access('L', 0x10, 1, 5),
-        digits: b"10",
-    },
-    Case {
-        line: b"  0  10",
-        seen: Seen::Access('L', 0x10, 1, 6),
-        digits: b"10",
-    },
-    Case {
-        line: b"010",
-        seen: Seen::Refused(13, 2),
-        digits: b"",
-    },
-    Case {
-        line: b"0\r",
-        seen: Seen::Refused(13, 2),
-        digits: b"",
-    },
-    // lines that end early
-    Case {
-        line: b"0",
-        seen: Seen::Refused(13, 2),
-        digits: b"",
-    },
-    Case {
-        line: b"0 ",
-        seen: Seen::Refused(13, 3),
-        digits: b"",
-    },
-    Case {
-        line: b" 0",
-        seen: Seen::Refused(13, 3),
-        digits: b"",
-    },
-    Case {
-        line: b" 0\t",
-        seen: Seen::Refused(13, 4),
-        digits: b"",
-    },
-    // what follows the address
-    Case {
-        line: b"0 10 ",
-        seen: Seen::Access('L', 0x10, 1, 3),
-        digits: b"10",
-    },
-    Case {
-        line: b"0 10 and more",
-        seen: Seen::Access('L', 0x10, 1, 3),
-        digits: b"10",
-    },
-    Case {
-        line: b"0 10\tg",
-        seen: Seen::Access('L', 0x10, 1, 3),
-        digits: b"10",
-    },
-    Case {
-        line: b"0 10,4",
-        seen: Seen::Refused(13, 5),
-        digits: b"",
-    },
-    Case {
-        line: b"0 10\r",
-        seen: Seen::Refused(13, 5),
-        digits: b"",
-    },
-    Case {
-        line: b"0 10 \r",
-        seen: Seen::Access('L', 0x10, 1, 3),
-        digits: b"10",
-    },
-    // digits
-    Case {
-        line: b"0 g",
-        seen: Seen::Refused(13, 3),
-        digits: b"",
-    },
-    Case {
-        line: b"0 1g",
-        seen: Seen::Refused(13, 4),
-        digits: b"",
-    },
-    Case {
-        line: b"0 0x10",
-        seen: Seen::Refused(13, 4),
-        digits: b"",
-    },
-    Case {
-        line: b"0 aBcDeF09",
-        seen: Seen::Access('L', 0xabcdef09, 1, 3),
-        digits: b"aBcDeF09",
-    },
-    Case {
-        line: b"0 0000000000000001",
-        seen: Seen::Access('L', 1, 1, 3),
-        digits: b"0000000000000001",
-    },
-    Case {
-        line: b"0 ffffffffffffffff",
-        seen: Seen::Access('L', u64::MAX, 1, 3),
-        digits: b"ffffffffffffffff",
-    },
-    Case {
-        line: b"0 FFFFFFFFFFFFFFFF",
-        seen: Seen::Access('L', u64::MAX, 1, 3),
-        digits: b"FFFFFFFFFFFFFFFF",
-    },
-    Case {
-        line: b"0 00000000000000001",
-        seen: Seen::Refused(13, 19),
-        digits: b"",
-    },
-    Case {
-        line: b"0 fffffffffffffffff",
-        seen: Seen::Refused(13, 19),
-        digits: b"",
-    },
-];
+use notations::line::Kind::{Fetch, Load, Store};
 
 #[test]
 fn din_lines(rt: HostRuntime) {
-    agree(&rt, &Din, &CASES);
-    agree(&rt, &Format::Din, &CASES);
+    let cases = [
+        // lines of blanks only
+        skipped(b""),
+        skipped(b"   "),
+        skipped(b"\t \t"),
+        // labels
+        access(b"0 10", Load, 0x10, 1, b"10", 3),
+        access(b"1 10", Store, 0x10, 1, b"10", 3),
+        access(b"2 10", Fetch, 0x10, 1, b"10", 3),
+        refused(b"3 10", UnknownKind, 1),
+        refused(b"4 10", UnknownKind, 1),
+        refused(b"  4 10", UnknownKind, 3),
+        refused(b"L 10", UnknownKind, 1),
+        refused(b"==1== x", UnknownKind, 1),
+        refused(b"\r", UnknownKind, 1),
+        // blanks before and after the label
+        access(b"\t0 10", Load, 0x10, 1, b"10", 4),
+        access(b"0\t \t10", Load, 0x10, 1, b"10", 5),
+        access(b"  0  10", Load, 0x10, 1, b"10", 6),
+        refused(b"010", Misfit, 2),
+        refused(b"0\r", Misfit, 2),
+        // lines that end early
+        refused(b"0", Misfit, 2),
+        refused(b"0 ", Misfit, 3),
+        refused(b" 0", Misfit, 3),
+        refused(b" 0\t", Misfit, 4),
+        // what follows the address
+        access(b"0 10 ", Load, 0x10, 1, b"10", 3),
+        access(b"0 10 and more", Load, 0x10, 1, b"10", 3),
+        access(b"0 10\tg", Load, 0x10, 1, b"10", 3),
+        refused(b"0 10,4", Misfit, 5),
+        refused(b"0 10\r", Misfit, 5),
+        access(b"0 10 \r", Load, 0x10, 1, b"10", 3),
+        // digits
+        refused(b"0 g", Misfit, 3),
+        refused(b"0 1g", Misfit, 4),
+        refused(b"0 0x10", Misfit, 4),
+        access(b"0 aBcDeF09", Load, 0xabcdef09, 1, b"aBcDeF09", 3),
+        access(b"0 0000000000000001", Load, 1, 1, b"0000000000000001", 3),
+        access(
+            b"0 ffffffffffffffff",
+            Load,
+            u64::MAX,
+            1,
+            b"ffffffffffffffff",
+            3,
+        ),
+        access(
+            b"0 FFFFFFFFFFFFFFFF",
+            Load,
+            u64::MAX,
+            1,
+            b"FFFFFFFFFFFFFFFF",
+            3,
+        ),
+        refused(b"0 00000000000000001", Misfit, 19),
+        refused(b"0 fffffffffffffffff", Misfit, 19),
+    ];
+    agree(&rt, &Din, &cases);
+    agree(&rt, &Format::Din, &cases);
 }

@@ -1,5 +1,7 @@
-use geometry::numbers::{Address, LineNumber};
+use geometry::access::LineSpan;
+use geometry::numbers::{Address, LineNumber, SetNumber};
 use geometry::refusal::Refusal;
+use geometry::refusal::Refusal::{PastMemory, Size};
 use geometry::shape::Geometry;
 use std::test::Fail;
 
@@ -21,19 +23,16 @@ const SHAPES: [(u32, u32, u32, bool); 14] = [
     (13, 11, 17, false),
 ];
 
-// The shape that was made, or the number of the refusal.
-fn made(b: u32, s: u32, ways: u32) -> Result<(u32, u32, u32), u8> {
-    match Geometry::new(b, s, ways) {
-        Ok(g) => Ok((g.b(), g.s(), g.ways())),
-        Err(cause) => Err(cause.number()),
-    }
-}
-
 #[test]
 fn limits_of_shapes(rt: HostRuntime) -> Result<(), Fail> {
     for (b, s, ways, is_taken) in SHAPES {
-        let expected = if is_taken { Ok((b, s, ways)) } else { Err(1) };
-        assert_eq!(rt; made(b, s, ways), expected);
+        let made = Geometry::new(b, s, ways).map(|shape| (shape.b(), shape.s(), shape.ways()));
+        let expected = if is_taken {
+            Ok((b, s, ways))
+        } else {
+            Err(Refusal::Limits)
+        };
+        assert_eq!(rt; made, expected);
     }
     assert_eq!(rt; Geometry::new(4, 0, 1)?.sets(), 1);
     assert_eq!(rt; Geometry::new(4, 10, 1)?.sets(), 1024);
@@ -54,50 +53,48 @@ const PLACES: [(u32, u32, u64, u64, u32); 6] = [
 fn places_of_addresses(rt: HostRuntime) -> Result<(), Fail> {
     for (b, s, address, line, set) in PLACES {
         let shape = Geometry::new(b, s, 1)?;
-        assert_eq!(rt; shape.line_of(Address(address)).0, line);
-        assert_eq!(rt; shape.set_of(LineNumber(line)).0, set);
+        assert_eq!(rt; shape.line_of(Address(address)), LineNumber(line));
+        assert_eq!(rt; shape.set_of(LineNumber(line)), SetNumber(set));
     }
     Ok(())
 }
 
-// b, the address and the size of an access, with its first and its last line, or the number of its refusal
-const SPANS: [(u32, u64, u64, Result<(u64, u64), u8>); 18] = [
+// b, the address and the size of an access, with its first and its last line, or its refusal
+const SPANS: [(u32, u64, u64, Result<(u64, u64), Refusal>); 18] = [
     (4, 0x1e, 4, Ok((1, 2))),
     (4, 0x1e, 2, Ok((1, 1))),
-    (4, 0, 0, Err(4)),
+    (4, 0, 0, Err(Size)),
     (4, 0, 1, Ok((0, 0))),
     (4, 0, 256, Ok((0, 15))),
     (4, 1, 256, Ok((0, 16))),
-    (4, 0, 257, Err(4)),
-    (4, 0, u64::MAX, Err(4)),
+    (4, 0, 257, Err(Size)),
+    (4, 0, u64::MAX, Err(Size)),
     (2, 3, 2, Ok((0, 1))),
     (12, 0xfff, 1, Ok((0, 0))),
     (12, 0xfff, 2, Ok((0, 1))),
     (12, 0x1000, 1, Ok((1, 1))),
-    (4, u64::MAX, 0, Err(4)),
+    (4, u64::MAX, 0, Err(Size)),
     (4, u64::MAX, 1, Ok((u64::MAX / 16, u64::MAX / 16))),
-    (4, u64::MAX, 2, Err(3)),
-    (4, u64::MAX, 257, Err(4)),
+    (4, u64::MAX, 2, Err(PastMemory)),
+    (4, u64::MAX, 257, Err(Size)),
     (
         2,
         u64::MAX - 255,
         256,
         Ok((u64::MAX / 4 - 63, u64::MAX / 4)),
     ),
-    (2, u64::MAX - 254, 256, Err(3)),
+    (2, u64::MAX - 254, 256, Err(PastMemory)),
 ];
-
-fn spanned(shape: Geometry, address: u64, size: u64) -> Result<(u64, u64), u8> {
-    match shape.span(Address(address), size) {
-        Ok(span) => Ok((span.first.0, span.last.0)),
-        Err(cause) => Err(cause.number()),
-    }
-}
 
 #[test]
 fn lines_of_accesses(rt: HostRuntime) -> Result<(), Fail> {
     for (b, address, size, expected) in SPANS {
-        assert_eq!(rt; spanned(Geometry::new(b, 0, 1)?, address, size), expected);
+        let span = Geometry::new(b, 0, 1)?.span(Address(address), size);
+        let expected = expected.map(|(first, last)| LineSpan {
+            first: LineNumber(first),
+            last: LineNumber(last),
+        });
+        assert_eq!(rt; span, expected);
     }
     Ok(())
 }

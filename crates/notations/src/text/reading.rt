@@ -41,7 +41,7 @@ impl<'t> Iterator for Lines<'t> {
 }
 
 // The first line of a text, without its LF, and what follows it.
-fn split_line<'t>(text: &'t [u8]) -> Option<(&'t [u8], &'t [u8])>
+fn split_line(text: &[u8]) -> Option<(&[u8], &[u8])>
     ensures line { MatchOption result (lines text.now ≡ []) (λ cut. lines text.now ≡ cut.0.now ∷ lines cut.1.now) }
     ensures shorter { IfSome result (λ cut. length cut.1.now < length text.now) }
 {

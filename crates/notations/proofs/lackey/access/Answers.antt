@@ -1,33 +1,30 @@
-use Rattle.std.proofs.Common.{refl, inl, inr, ⊎_elim, arith}
-use Rattle.notations.specs.LackeyMeans.{sized_part, opened_told, no_digits, no_comma, size_misfit, a_record, size_column}
+use Rattle.std.proofs.Common.{arith}
+use Rattle.std.proofs.lemmas.Grind.{common_steps}
+use Rattle.notations.specs.LackeyMeans.{no_digits, no_comma, sized_part, size_misfit, wrong_size, past_memory, a_record}
 use Rattle.notations.proofs.lackey.access.Goals as goal
 
 pub returns-then-count-eq0 : goal.returns-then-count-eq0
-returns-then-count-eq0 c = (opened_told _ _, no_digits _ _ _ _ c.figures-count.ensures c.if-count-eq0.true)
+returns-then-count-eq0 c = rw c.new.ensures (no_digits _ _ _ _ c.figures-count.ensures c.if-count-eq0.true)
 
 pub returns-in_default : goal.returns-in_default
-returns-in_default c = (opened_told _ _, no_comma _ _ _ _ c.figures-count.ensures (omega arith) c.in_default.ensures)
+returns-in_default c = rw c.new-in_default.ensures (no_comma _ _ _ _ _ c.figures-count.ensures (omega arith) c.split_at.ensures.back (λ some e. grind arith))
 
 pub returns-then-size-eq0 : goal.returns-then-size-eq0
 returns-then-size-eq0 c =
-    (opened_told _ _, size_misfit _ _ _ _ _ _ _ (sized_part c.figures-count.ensures (omega arith) c.in-Some.ensures c.figures-size.ensures) c.then-size-eq0.either)
+    let seen = sized_part c.figures-count.ensures (omega arith) c.split_at.ensures.back (omega arith) (omega arith) c.figures-size.ensures in
+    rw c.new-then-size-eq0.ensures (size_misfit _ seen c.then-size-eq0.either)
 
 pub returns-then-size-lt1 : goal.returns-then-size-lt1
-returns-then-size-lt1 c = (
-  opened_told _ _,
-  inr (inr (inl (refl, (_, a_record _ _ _ _ _ _ _ (sized_part c.figures-count.ensures (omega arith) c.in-Some.ensures c.figures-size.ensures) (omega arith) (omega arith), (λ h. let low = h.0 in let high = h.1 in ⊎_elim (λ (e : _). omega arith) (λ e. let f = e.1 in omega arith) c.then-size-lt1.either), size_column _ _ c.figures-count.ensures.within)))),
-)
+returns-then-size-lt1 c =
+    let seen = sized_part c.figures-count.ensures (omega arith) c.split_at.ensures.back (omega arith) (omega arith) c.figures-size.ensures in
+    rw c.new-then-size-lt1.ensures (wrong_size _ seen (omega arith) (omega arith) (λ h. grind arith))
 
-pub returns-then-value-size : goal.returns-then-value-size
-returns-then-value-size c = (
-  opened_told _ _,
-  inr (inr (inr (refl, (_, a_record _ _ _ _ _ _ _ (sized_part c.figures-count.ensures (omega arith) c.in-Some.ensures c.figures-size.ensures) (omega arith) (omega arith), (omega arith, omega arith), (λ h. omega arith), refl)))),
-)
+pub returns-then-is_none : goal.returns-then-is_none
+returns-then-is_none c =
+    let seen = sized_part c.figures-count.ensures (omega arith) c.split_at.ensures.back (omega arith) (omega arith) c.figures-size.ensures in
+    rw c.new-then-is_none.ensures (past_memory _ seen (omega arith) (omega arith) (omega arith, omega arith) (λ h. grind (arith, common_steps)))
 
 pub returns : goal.returns
-returns c = (
-  opened_told _ _,
-  a_record _ _ _ _ _ _ _ (sized_part c.figures-count.ensures (omega arith) c.in-Some.ensures c.figures-size.ensures) (omega arith) (omega arith),
-  (omega arith, omega arith),
-  omega arith,
-)
+returns c =
+    let seen = sized_part c.figures-count.ensures (omega arith) c.split_at.ensures.back (omega arith) (omega arith) c.figures-size.ensures in
+    a_record _ seen (omega arith) (omega arith) c.split_at.ensures.front (omega arith, omega arith) (grind (arith, common_steps))
