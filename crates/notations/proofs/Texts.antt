@@ -57,4 +57,4 @@ rejoins (b ∷ bs) = go (eqb b 10) refl (rejoins bs)
     go true is h =
         let lf : 10 ≡ b = sym (eqb-true b 10 is) in
         ((tt, h.0), ⊎_elim (λ e. inl (λ i. lf i ∷ e i)) (λ e. inr (λ i. lf i ∷ e i)) h.1)
-    go false is h = before b bs (lines bs) (λ e. let z : eqb b 10 ≡ true = ap (λ x. eqb x 10) e in let c : ◌≡◌ {A = ℕ} 0 1 = cc in omega arith) h.0 h.1
+    go false is h = before b bs (lines bs) (λ e. let z : eqb b 10 ≡ true = ap (λ x. eqb x 10) e in cc) h.0 h.1

@@ -13,7 +13,7 @@ use Rattle.notations.specs.Grammar.{Reading, Begins, Misfits, Refuses, Means, to
 use Rattle.notations.specs.declared.line.Kind.{Kind}
 use Rattle.notations.specs.declared.line.Kind.TheVariants.{Fetch, Load, Store, Modify}
 use Rattle.notations.specs.Meanings.{Dies, misfits, unknown_kind, misfit, one_meaning}
-use Rattle.notations.specs.Runs.{Blanks, More, Some, Apart, blanks_in, blanks_out, blanks_done, some_in, some_out, more_done, Ends, same_run, digits_all, all_here, digit_solid}
+use Rattle.notations.specs.Runs.{Blanks, More, Some, Apart, blanks_in, blanks_out, blanks_done, some_in, some_out, more_done, Ends, same_run, digits_all, all_here, digit_solid, cells, zero_address, figures_of, first_and_rest}
 
 abbrev pub IsLabel : ℕ → Type 0
 IsLabel b = (b ≡ 48) ⊎ ((b ≡ 49) ⊎ (b ≡ 50))
@@ -45,7 +45,7 @@ pub is_label : (k : Kind) (m : ℕ) → label k ≡ Just m → IsLabel m
 is_label Load m e = inl (cc)
 is_label Store m e = inr (inl (cc))
 is_label Fetch m e = inr (inr (cc))
-is_label Modify m e = let z : ◌≡◌ {A = ℕ} 0 1 = cc in absurd (omega arith)
+is_label Modify m e = absurd (cc)
 
 gap_in : (gap r : List ℕ) → AllByRecursion Blank gap → 0 < length gap → AtDigits r → AtGap (gap ++ r)
 gap_in [] r h some k = absurd (omega arith)
@@ -98,9 +98,6 @@ begins p more indent mark gap ds shape h l k some figures =
     let d : DinRecord (p ++ more) t = record { indent = indent; mark = mark; gap = gap; rest = []; shape = shape; indented = h; labelled = label_of mark l; apart = k; some = some; figures = figures; stops = tt; address = refl; size = refl; column = refl } in
     (more, t, d)
 
-zero_digit : Figures 16 16 (48 ∷ [])
-zero_digit = record { some = omega arith; few = omega arith; digits = (omega arith, tt) }
-
 one_blank : AllByRecursion Blank (32 ∷ [])
 one_blank = (inl refl, tt)
 
@@ -108,7 +105,7 @@ one_blank = (inl refl, tt)
 pub refuse_label : (indent : List ℕ) (b : ℕ) (bs : List ℕ) → AllByRecursion Blank indent → (Blank b → ⊥) → (IsLabel b → ⊥) → Misfits din (indent ++ b ∷ bs) (length indent)
 unfolding din
 refuse_label indent b bs h solid other =
-    misfits din (Blanks AtLabel) indent (b ∷ bs) (begins indent (48 ∷ (32 ∷ (48 ∷ []))) indent 48 (32 ∷ []) (48 ∷ []) refl h (inl refl) one_blank (omega arith) zero_digit) (after_indent indent h)
+    misfits din (Blanks AtLabel) indent (b ∷ bs) (begins indent (48 ∷ (32 ∷ (48 ∷ []))) indent 48 (32 ∷ []) (48 ∷ []) refl h (inl refl) one_blank (omega arith) zero_address) (after_indent indent h)
     (λ rest k. other (blanks_done AtLabel b rest solid k).0)
 
 dies_gap : (r : List ℕ) → (0 < length r → Blank (slice_index r 0) → ⊥) → Dies AtGap r
@@ -118,7 +115,7 @@ dies_gap (b ∷ bs) solid = λ rest k. solid (omega arith) k.0
 pub refuse_gap : (indent : List ℕ) (mark : ℕ) (r : List ℕ) → AllByRecursion Blank indent → IsLabel mark → (0 < length r → Blank (slice_index r 0) → ⊥) → Misfits din ((indent ++ mark ∷ []) ++ r) (length (indent ++ mark ∷ []))
 unfolding din
 refuse_gap indent mark r h l solid =
-    misfits din AtGap (indent ++ mark ∷ []) r (begins (indent ++ mark ∷ []) (32 ∷ (48 ∷ [])) indent mark (32 ∷ []) (48 ∷ []) (append_assoc indent (mark ∷ []) (32 ∷ (48 ∷ []))) h l one_blank (omega arith) zero_digit)
+    misfits din AtGap (indent ++ mark ∷ []) r (begins (indent ++ mark ∷ []) (32 ∷ (48 ∷ [])) indent mark (32 ∷ []) (48 ∷ []) (append_assoc indent (mark ∷ []) (32 ∷ (48 ∷ []))) h l one_blank (omega arith) zero_address)
     (λ rest t d. after_label indent mark h l rest t (subst (λ x. DinRecord x t) (append_assoc indent (mark ∷ []) rest) d)) (dies_gap r solid)
 
 dies_digits : (r : List ℕ) → (0 < length r → Blank (slice_index r 0) → ⊥) → (0 < length r → 16 ≤ digit_value (slice_index r 0)) → Dies (Blanks AtDigits) r
@@ -128,7 +125,7 @@ dies_digits (b ∷ bs) solid stops = λ rest k. let low = (blanks_done AtDigits 
 pub refuse_digits : (indent : List ℕ) (mark : ℕ) (gap r : List ℕ) → AllByRecursion Blank indent → IsLabel mark → AllByRecursion Blank gap → 0 < length gap → (0 < length r → Blank (slice_index r 0) → ⊥) → (0 < length r → 16 ≤ digit_value (slice_index r 0)) → Misfits din ((indent ++ mark ∷ gap) ++ r) (length (indent ++ mark ∷ gap))
 unfolding din
 refuse_digits indent mark gap r h l k some solid stops =
-    misfits din (Blanks AtDigits) (indent ++ mark ∷ gap) r (begins (indent ++ mark ∷ gap) (48 ∷ []) indent mark gap (48 ∷ []) (append_assoc indent (mark ∷ gap) (48 ∷ [])) h l k some zero_digit)
+    misfits din (Blanks AtDigits) (indent ++ mark ∷ gap) r (begins (indent ++ mark ∷ gap) (48 ∷ []) indent mark gap (48 ∷ []) (append_assoc indent (mark ∷ gap) (48 ∷ [])) h l k some zero_address)
     (λ rest t d. after_gap indent mark gap h l k some rest t (subst (λ x. DinRecord x t) (append_assoc indent (mark ∷ gap) rest) d)) (dies_digits r solid stops)
 
 pub refuse_end : (indent : List ℕ) (mark : ℕ) (gap ds : List ℕ) (b : ℕ) (bs : List ℕ) → AllByRecursion Blank indent → IsLabel mark → AllByRecursion Blank gap → 0 < length gap → Figures 16 16 ds → (Blank b → ⊥) → (length ds < 16 → 16 ≤ digit_value b) → Misfits din ((indent ++ mark ∷ (gap ++ ds)) ++ b ∷ bs) (length (indent ++ mark ∷ (gap ++ ds)))
@@ -169,9 +166,6 @@ one_record line t u d e =
     let sizes : t.size ≡ u.size = d.size ∙ sym e.size in
     let columns : t.column ≡ u.column = d.column ∙ (λ i. length (first.0 i) + length (second.0 i) + 2) ∙ sym e.column in
     λ i. record { kind = kinds i; address = addresses i; size = sizes i; digits = third.0 i; column = columns i }
-  where
-    cells : {x y : ℕ} {xs ys : List ℕ} → x ∷ xs ≡ y ∷ ys → (x ≡ y) × (xs ≡ ys)
-    cells e = (cc, cc)
 
 pub din_one : One din
 unfolding din
@@ -208,10 +202,6 @@ marked line i h some =
       indent = h.blanks;
       solid = λ b. h.stops low (subst Blank mark b);
     }
-  where
-    first_and_rest : (bs : List ℕ) → 1 ≤ length bs → bs ≡ slice_index bs 0 ∷ between 1 (length bs) bs
-    first_and_rest [] some = absurd (omega arith)
-    first_and_rest (b ∷ bs) some = ap (λ r. b ∷ r) (sym (take_rest (b ∷ bs) 1))
 
 pub scanned : {line after : List ℕ} {mark i g n v : ℕ} → Marked line after mark i → Indent after g → Longest 16 16 (between g (length after) after) n v → Scanned line after (between g (length after) after) mark i g n v
 scanned {line} {after} {mark} {i} {g} m gap digits = record { marked = m; after_is = take_rest after g; gap = gap; digits = digits }
@@ -267,12 +257,6 @@ no_address {line} {after} {rest} {mark} {i} {g} {n} {v} s k label_is none =
     let l = is_label k mark label_is in
     (marked_solid s.marked, ⊎_elim (no_gap line after rest mark i g n v s l) (λ w. no_digits line after rest mark i g n v s l (let z = w.0 in omega arith) w.1) none)
 
-figures_of : {line after rest : List ℕ} {mark i g n v : ℕ} → Scanned line after rest mark i g n v → 0 < n → Figures 16 16 (take n rest)
-figures_of {line} {after} {rest} {mark} {i} {g} {n} {v} s any =
-    let long = length-take-le n rest s.digits.within in
-    let few = s.digits.few in
-    record { some = omega arith; few = omega arith; digits = s.digits.digits }
-
 pub no_end : {line after rest end : List ℕ} {mark i g n v : ℕ} → Scanned line after rest mark i g n v → (k : Kind) → label k ≡ Just mark → 0 < g → 0 < n → end ≡ drop n rest → (Stops end → ⊥) → Means din line (refused Misfit (i + g + 2 + n))
 no_end {line} {after} {rest} {end} {mark} {i} {g} {n} {v} s k label_is some any end_is unstopped =
     let on : Stops (drop n rest) → ⊥ = λ h. unstopped (subst Stops (sym end_is) h) in
@@ -290,7 +274,7 @@ no_end {line} {after} {rest} {end} {mark} {i} {g} {n} {v} s k label_is some any 
     let long : length p ≡ i + g + 1 + n = simp length-append (omega arith) in
     let column : i + g + 1 + n + 1 ≡ i + g + 2 + n = omega arith in (
       marked_solid s.marked,
-      subst (Refuses din line Misfit) column (misfit din line p (slice_index rest n ∷ r) (i + g + 1 + n) shape long (refuse_end (take i line) mark (take g after) ds (slice_index rest n) r s.marked.indent l s.gap.blanks (omega arith) (figures_of s any) solid (λ low. s.digits.stops inside (omega arith))) (labelled_solid (take i line) mark (take g after ++ ds) l)),
+      subst (Refuses din line Misfit) column (misfit din line p (slice_index rest n ∷ r) (i + g + 1 + n) shape long (refuse_end (take i line) mark (take g after) ds (slice_index rest n) r s.marked.indent l s.gap.blanks (omega arith) (figures_of 16 16 rest n v s.digits any) solid (λ low. s.digits.stops inside (omega arith))) (labelled_solid (take i line) mark (take g after ++ ds) l)),
     )
 
 pub a_record : {line after rest ds end : List ℕ} {mark i g n v : ℕ} → Scanned line after rest mark i g n v → (k : Kind) → label k ≡ Just mark → 0 < g → 0 < n → v < 2 ^ 64 → ds ≡ take n rest → end ≡ drop n rest → Stops end → Means din line (told (record { kind = k; address = v; size = 1; digits = ds; column = i + g + 2 }))
@@ -308,7 +292,7 @@ a_record {line} {after} {rest} {ds} {end} {mark} {i} {g} {n} {v} s k label_is so
       labelled = label_is;
       apart = s.gap.blanks;
       some = omega arith;
-      figures = subst (Figures 16 16) (sym is) (figures_of s any);
+      figures = subst (Figures 16 16) (sym is) (figures_of 16 16 rest n v s.digits any);
       stops = stops;
       address = s.digits.is ∙ ap (digits_value 16) (sym is);
       size = refl;

@@ -2,7 +2,7 @@
 use Rattle.std.specs.Prelude.{◌≡◌, ℕ, ◌+◌, ◌-◌, ◌<◌, ◌≤◌, cond, ◌⊎◌, List, [], ◌∷◌, ◌++◌, length, take, drop, ◌==◌, ◌≢◌, slice_index, slice_index_or, refl}
 use Rattle.std.proofs.Common.{sym, ap, subst, ◌∙◌, inl, inr, ⊎_elim, append_assoc, append-nil, arith, length-append, length-drop, take-append-drop}
 use Rattle.std.proofs.ByRecursion.{All-get_or}
-use Rattle.std.proofs.lemmas.List.{take_all, take_rest, length-take-le, drop_more, get_or-drop}
+use Rattle.std.proofs.lemmas.List.{take_all, length-take-le, drop_more, get_or-drop}
 use Rattle.std.specs.Str.Parse.{AllDigits, digits_value}
 use Rattle.std.specs.Char.{digit_value}
 use Rattle.std.specs.List.{between, AllByRecursion}
@@ -14,7 +14,7 @@ use Rattle.notations.specs.Lackey.{prefix, LackeyRecord, lackey, Unopened, Comme
 use Rattle.notations.specs.declared.line.Kind.{Kind}
 use Rattle.notations.specs.declared.line.Kind.TheVariants.{Fetch, Load, Store, Modify}
 use Rattle.notations.specs.Meanings.{Dies, misfits, unknown_kind, misfit, one_meaning}
-use Rattle.notations.specs.Runs.{More, Some, Apart, some_in, some_out, more_done, more_end, Ends, same_run, digits_all}
+use Rattle.notations.specs.Runs.{More, Some, Apart, some_in, some_out, more_done, more_end, Ends, same_run, digits_all, later_solid, zero_figures, zero_address, figures_of, first_and_rest}
 
 -- how a line goes on after its kind
 abbrev AtEnd : List ℕ → Type 0
@@ -87,11 +87,8 @@ begins p more k ds zs shape figures counted =
     let d : LackeyRecord (p ++ more) t = record { sized = zs; shape = shape; figures = figures; counted = counted; address = refl; size = refl; column = refl } in
     (more, t, d)
 
-zero_address : Figures 16 16 (48 ∷ [])
-zero_address = record { some = omega arith; few = omega arith; digits = (omega arith, tt) }
-
 zero_size : Figures 10 3 (48 ∷ [])
-zero_size = record { some = omega arith; few = omega arith; digits = (omega arith, tt) }
+zero_size = zero_figures 10 3 (omega arith) (omega arith)
 
 -- three bytes and more do not lead to a kind
 long_lead : (p : List ℕ) → 2 ≤ length p → lackey.lead p → ⊥
@@ -105,29 +102,10 @@ fetch_lead lead = ⊎_elim (λ e. let n = ap length e in omega arith) (λ e. let
 -- a line that a kind opens is not skipped
 pub opened_told : (k : Kind) (rest : List ℕ) → lackey.skips (prefix k ++ rest) → ⊥
 unfolding lackey
-opened_told Fetch rest h = ⊎_elim (λ b. solid b.0) (λ e. let n = ap (λ l. slice_index l 0) e.1 in omega arith) h
-  where
-    solid : Blank 73 → ⊥
-    solid b = grind arith
-opened_told Load rest h = ⊎_elim (λ b. solid b.1.0) (λ e. let n = ap (λ l. slice_index l 0) e.1 in omega arith) h
-  where
-    solid : Blank 76 → ⊥
-    solid b = grind arith
-opened_told Store rest h = ⊎_elim (λ b. solid b.1.0) (λ e. let n = ap (λ l. slice_index l 0) e.1 in omega arith) h
-  where
-    solid : Blank 83 → ⊥
-    solid b = grind arith
-opened_told Modify rest h = ⊎_elim (λ b. solid b.1.0) (λ e. let n = ap (λ l. slice_index l 0) e.1 in omega arith) h
-  where
-    solid : Blank 77 → ⊥
-    solid b = grind arith
-
--- What the reader has seen after a kind: n digits; a comma; m digits of a size.
-pub figures_of : (radix most : ℕ) (bs : List ℕ) (n v : ℕ) → Longest radix most bs n v → 0 < n → Figures radix most (take n bs)
-figures_of radix most bs n v h any =
-    let long = length-take-le n bs h.within in
-    let few = h.few in
-    record { some = omega arith; few = omega arith; digits = h.digits }
+opened_told Fetch rest h = ⊎_elim (λ b. later_solid 73 (omega arith) b.0) (λ e. let n = ap (λ l. slice_index l 0) e.1 in omega arith) h
+opened_told Load rest h = ⊎_elim (λ b. later_solid 76 (omega arith) b.1.0) (λ e. let n = ap (λ l. slice_index l 0) e.1 in omega arith) h
+opened_told Store rest h = ⊎_elim (λ b. later_solid 83 (omega arith) b.1.0) (λ e. let n = ap (λ l. slice_index l 0) e.1 in omega arith) h
+opened_told Modify rest h = ⊎_elim (λ b. later_solid 77 (omega arith) b.1.0) (λ e. let n = ap (λ l. slice_index l 0) e.1 in omega arith) h
 
 dies_digit : (radix n : ℕ) (K : List ℕ → Type 0) (r : List ℕ) → (0 < length r → radix ≤ digit_value (slice_index r 0)) → Dies (Some radix n K) r
 dies_digit radix n K [] stops = λ k. k
@@ -178,16 +156,12 @@ pub record SizedPart (rest sized : List ℕ) (n v m w : ℕ) : Type 0 where
   pub comma : rest ≡ take n rest ++ 44 ∷ sized
   pub size : Longest 10 3 sized m w
 
-first_and_rest : (bs : List ℕ) (a : ℕ) → 1 ≤ length bs → slice_index bs 0 ≡ a → bs ≡ a ∷ between 1 (length bs) bs
-first_and_rest [] a long e = absurd (omega arith)
-first_and_rest (x ∷ bs) a long e = (λ i. e i ∷ bs) ∙ ap (λ r. a ∷ r) (sym (take_rest (x ∷ bs) 1))
-
 -- the parts as the reader cuts them
 pub sized_part : {rest end : List ℕ} {n v m w : ℕ} → Longest 16 16 rest n v → 0 < n → end ≡ drop n rest → 1 ≤ length end → slice_index end 0 ≡ 44 → Longest 10 3 (between 1 (length end) end) m w → SizedPart rest (between 1 (length end) end) n v m w
 sized_part {rest} {end} {n} {v} {m} {w} digits any end_is some comma size = record {
   digits = digits;
   any = any;
-  comma = sym (take-append-drop n rest) ∙ ap (λ x. take n rest ++ x) (sym end_is ∙ first_and_rest end 44 some comma);
+  comma = sym (take-append-drop n rest) ∙ ap (λ x. take n rest ++ x) (sym end_is ∙ first_and_rest end some ∙ ap (λ b. b ∷ between 1 (length end) end) comma);
   size = size;
 }
 

@@ -1,10 +1,11 @@
 -- Runs of bytes: how a line can go on after some of it, and that a run ends at one place only.
-use Rattle.std.specs.Prelude.{◌≡◌, ℕ, zero, suc, ◌+◌, ◌<◌, ◌≤◌, ◌⊎◌, List, [], ◌∷◌, ◌++◌, length, refl}
+use Rattle.std.specs.Prelude.{◌≡◌, ℕ, zero, suc, ◌+◌, ◌<◌, ◌≤◌, ◌⊎◌, List, [], ◌∷◌, ◌++◌, length, take, slice_index, refl}
 use Rattle.std.proofs.Common.{sym, ap, subst, inl, inr, ⊎_elim, arith}
 use Rattle.std.specs.Str.Parse.{AllDigits}
 use Rattle.std.specs.Char.{digit_value}
-use Rattle.std.specs.List.{AllByRecursion}
-use Rattle.notations.specs.Bytes.{Blank}
+use Rattle.std.specs.List.{between, AllByRecursion}
+use Rattle.std.proofs.lemmas.List.{length-take-le, take_rest}
+use Rattle.notations.specs.Bytes.{Blank, Figures, Longest}
 
 -- blanks, then K
 abbrev pub Blanks : (List ℕ → Type 0) → List ℕ → Type 0
@@ -73,22 +74,20 @@ abbrev pub Ends : (ℕ → Type 0) → List ℕ → Type 0
 Ends P [] = Unit {0}
 Ends P (b ∷ bs) = P b → ⊥
 
-heads : (x y : ℕ) (xs ys : List ℕ) → x ∷ xs ≡ y ∷ ys → x ≡ y
-heads x y xs ys e = cc
-
-tails : (x y : ℕ) (xs ys : List ℕ) → x ∷ xs ≡ y ∷ ys → xs ≡ ys
-tails x y xs ys e = cc
+-- equal lists have equal heads and tails
+pub cells : {x y : ℕ} {xs ys : List ℕ} → x ∷ xs ≡ y ∷ ys → (x ≡ y) × (xs ≡ ys)
+cells e = (cc, cc)
 
 -- so two runs that make up the same bytes are the same
 pub same_run : (P : ℕ → Type 0) (xs ys r s : List ℕ) → AllByRecursion P xs → AllByRecursion P ys → Ends P r → Ends P s → xs ++ r ≡ ys ++ s → (xs ≡ ys) × (r ≡ s)
 same_run P [] [] r s h k e f same = (refl, same)
-same_run P [] (y ∷ ys) [] s h k e f same = let z : ◌≡◌ {A = ℕ} 0 1 = cc in absurd (omega arith)
-same_run P [] (y ∷ ys) (b ∷ r) s h k e f same = absurd (e (subst P (sym (heads b y r (ys ++ s) same)) k.0))
-same_run P (x ∷ xs) [] r [] h k e f same = let z : ◌≡◌ {A = ℕ} 0 1 = cc in absurd (omega arith)
-same_run P (x ∷ xs) [] r (b ∷ s) h k e f same = absurd (f (subst P (heads x b (xs ++ r) s same) h.0))
+same_run P [] (y ∷ ys) [] s h k e f same = absurd (cc)
+same_run P [] (y ∷ ys) (b ∷ r) s h k e f same = absurd (e (subst P (sym (cells same).0) k.0))
+same_run P (x ∷ xs) [] r [] h k e f same = absurd (cc)
+same_run P (x ∷ xs) [] r (b ∷ s) h k e f same = absurd (f (subst P (cells same).0 h.0))
 same_run P (x ∷ xs) (y ∷ ys) r s h k e f same =
-    let more = same_run P xs ys r s h.1 k.1 e f (tails x y (xs ++ r) (ys ++ s) same) in
-    (λ i. heads x y (xs ++ r) (ys ++ s) same i ∷ more.0 i, more.1)
+    let more = same_run P xs ys r s h.1 k.1 e f (cells same).1 in
+    (λ i. (cells same).0 i ∷ more.0 i, more.1)
 
 pub digits_all : (radix : ℕ) (ds : List ℕ) → AllDigits radix ds → AllByRecursion (λ b. digit_value b < radix) ds
 digits_all radix [] h = tt
@@ -98,7 +97,30 @@ pub all_here : (P : ℕ → Type 0) (xs : List ℕ) (y : ℕ) (ys : List ℕ) �
 all_here P [] y ys h = h.0
 all_here P (x ∷ xs) y ys h = all_here P xs y ys h.1
 
+-- no byte past the space is a blank
+pub later_solid : (b : ℕ) → 32 < b → Blank b → ⊥
+later_solid b past blank = grind arith
+
 -- no digit is a blank
 pub digit_solid : (radix b : ℕ) → radix ≤ 36 → digit_value b < radix → Blank b → ⊥
 digit_solid radix b small low blank =
     ⊎_elim (λ e. let v : digit_value b ≡ 36 = ap digit_value e in omega arith) (λ e. let v : digit_value b ≡ 36 = ap digit_value e in omega arith) blank
+
+-- the number 0
+pub zero_figures : (radix most : ℕ) → 0 < radix → 0 < most → Figures radix most (48 ∷ [])
+zero_figures radix most some room = record { some = omega arith; few = omega arith; digits = (omega arith, tt) }
+
+pub zero_address : Figures 16 16 (48 ∷ [])
+zero_address = zero_figures 16 16 (omega arith) (omega arith)
+
+-- the longest front of digits is a number, if it is not empty
+pub figures_of : (radix most : ℕ) (bs : List ℕ) (n v : ℕ) → Longest radix most bs n v → 0 < n → Figures radix most (take n bs)
+figures_of radix most bs n v h any =
+    let long = length-take-le n bs h.within in
+    let few = h.few in
+    record { some = omega arith; few = omega arith; digits = h.digits }
+
+-- some bytes by the first and the rest, as a slice pattern gives them
+pub first_and_rest : (bs : List ℕ) → 1 ≤ length bs → bs ≡ slice_index bs 0 ∷ between 1 (length bs) bs
+first_and_rest [] some = absurd (omega arith)
+first_and_rest (b ∷ bs) some = ap (λ r. b ∷ r) (sym (take_rest (b ∷ bs) 1))

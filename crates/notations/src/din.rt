@@ -13,7 +13,7 @@ use geometry::refusal::Refusal;
 #[derive(Clone, Copy, PartialEq, Eq, Debug)]
 pub struct Din;
 
-// The kind that a label names.
+// The kind that a label names. Each notation names kinds in its own way, so `Kind` has no `TryFrom`.
 fn kind_of(byte: u8) -> Option<Kind>
     ensures { MatchOption result ((k : Kind) → label k ≢ Known byte) (λ k. label k ≡ Known byte) }
 {

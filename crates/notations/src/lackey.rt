@@ -62,7 +62,7 @@ fn access(kind: Kind, rest: &[u8]) -> Result<Option<Record<'_>>, LineFault>
     if size.count == 0 || size.count < sized.len() {
         return Err(LineFault::new(Refusal::Misfit, column + size.count));
     }
-    if size.value < 1 || size.value > 256 {
+    if !(1..=256).contains(&size.value) {
         return Err(LineFault::new(Refusal::Size, column));
     }
     if value.checked_add(size.value - 1).is_none() {

@@ -9,7 +9,7 @@ const TEXT: &[u8; 22] = b"set touches\n0 6\nall 6\n";
 #[test]
 fn output_that_just_fits(rt: HostRuntime) {
     let mut out = [7u8; 22];
-    assert!(rt; listing(INPUT, &mut out) == Ok(22));
+    assert_eq!(rt; listing(INPUT, &mut out), Ok(22));
     assert!(rt; out == *TEXT);
 }
 
