@@ -6,7 +6,7 @@ use rows::rule::RowRule;
 
 // Opened where the check refuses, a policy holds nothing for ever.
 pub fn holds_nothing_without_room<R: RowRule>()
-    ensures { HoldsNothing R.RowRule.lines R.RowRule.step R.RowRule.none }
+    ensures { HoldsNothing R.lines R.step R.none }
 {}
 
 // Whatever an LRU policy is told from its empty state on, each of its sets holds exactly the W lines of that set touched most recently.

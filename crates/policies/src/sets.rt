@@ -1,56 +1,23 @@
 ghost use Rattle.std.specs.Prelude.{◌≡◌, ℕ, ◌<◌, ◌≤◌, List, map, length, drop, slice_index_or};
 ghost use Rattle.std.specs.Borrow.{GName};
-ghost use Rattle.replacement.specs.Sets.{Sets as States, Kept, Ready, sets_of, held_in, next_of, cleared_of, opened};
+ghost use Rattle.replacement.specs.Sets.{Sets as States, Kept, Ready, sets_of, held_in, next_of, cleared_of, opened, opened_hits};
 ghost use Rattle.replacement.proofs.Sets.{sets_laws};
-ghost use Rattle.replacement.specs.Policy.{found, hits};
 ghost use Rattle.policy.specs.Numbers.{line_number};
-ghost use Rattle.policies.specs.Memory.{needed, checked, used};
+ghost use Rattle.policies.specs.Memory.{used};
 
+use crate::shape::Shape;
 use geometry::numbers::LineNumber;
-use geometry::refusal::Refusal;
 use policy::{Policy, touch_all};
 use rows::lru::LruRow;
 use rows::rule::RowRule;
 use rows::srrip::SrripRow;
 
-// The number of rows that a policy of 2^s sets needs: one for each set.
-pub fn rows_needed(s: u32, ways: u32) -> Result<usize, Refusal>
-    ensures { result ≡ needed s ways }
+// Empties rows.
+fn clear<R: RowRule>(rows: &mut [R])
+    ensures { (k : ℕ) (d : R) (w : ℕ) → k < length rows.new → w ≤ 16 → R.model w (slice_index_or rows.new k d) ≡ R.none w }
 {
-    if s > 10 || ways < 1 || ways > 16 {
-        return Err(Refusal::Limits);
-    }
-    Ok(1 << s)
-}
-
-// Whether a policy can be opened over a number of rows.
-pub fn check(rows: usize, s: u32, ways: u32) -> Result<(), Refusal>
-    ensures { result ≡ checked rows s ways }
-{
-    if rows < rows_needed(s, ways)? {
-        return Err(Refusal::Memory);
-    }
-    Ok(())
-}
-
-// How many rows a policy uses of a number of rows: what it needs, or none where the check refuses.
-fn rows_used(rows: usize, s: u32, ways: u32) -> usize
-    ensures { result ≡ used rows s ways }
-{
-    match check(rows, s, ways) {
-        Ok(()) => 1 << s,
-        Err(_) => 0,
-    }
-}
-
-// Empties the first n rows.
-fn clear<R: RowRule>(rows: &mut [R], n: usize)
-    requires { n ≤ length rows.old }
-    ensures blank { (k : ℕ) (d : R) (w : ℕ) → k < n → w ≤ 16 → R.RowRule.model w (slice_index_or rows.new k d) ≡ R.RowRule.none w }
-    ensures rest { drop n rows.new ≡ drop n rows.old }
-{
-    for k in 0..n {
-        rows[k] = R::blank();
+    for row in rows.iter_mut() {
+        *row = R::blank();
     }
 }
 
@@ -59,8 +26,7 @@ fn clear<R: RowRule>(rows: &mut [R], n: usize)
 pub struct Sets<'a, R> {
     rows: &'a mut [R],
     sets: usize,
-    s: u32,
-    ways: u32,
+    shape: Shape,
 }
 
 pub type Lru<'a> = Sets<'a, LruRow>;
@@ -68,25 +34,25 @@ pub type Lru<'a> = Sets<'a, LruRow>;
 pub type Srrip<'a> = Sets<'a, SrripRow>;
 
 impl<'a, R: RowRule> Policy for Sets<'a, R> {
-    ghost State = { States R.RowRule.Model };
+    ghost State = { States R.Model };
 
-    ghost state = { λ p. sets_of R.RowRule.model p.s p.ways p.sets p.rows.now };
+    ghost state = { λ p. sets_of R.model p.shape.s p.shape.ways p.sets p.rows.now };
 
     ghost slog = { λ q. q.slog };
 
     ghost wide = { λ q. q.wide };
 
-    ghost holds = { held_in R.RowRule.lines R.RowRule.none };
+    ghost holds = { held_in R.lines R.none };
 
-    ghost next = { next_of R.RowRule.step R.RowRule.none };
+    ghost next = { next_of R.step R.none };
 
-    ghost cleared = { cleared_of R.RowRule.none };
+    ghost cleared = { cleared_of R.none };
 
-    ghost ready = { λ p. Ready R.RowRule.model R.RowRule.Fine p.s p.ways p.sets p.rows.now };
+    ghost ready = { λ p. Ready R.model R.Fine p.shape.s p.shape.ways p.sets p.rows.now };
 
-    ghost Sound = { Kept R.RowRule.none R.RowRule.Fine };
+    ghost Sound = { Kept R.none R.Fine };
 
-    ghost laws = { sets_laws R.RowRule.laws R.RowRule.model (λ p. p.s) (λ p. p.ways) (λ p. p.sets) (λ p. p.rows.now) };
+    ghost laws = { sets_laws R.laws R.model (λ p. p.shape.s) (λ p. p.shape.ways) (λ p. p.sets) (λ p. p.rows.now) };
 
     // the loan, how many of its rows are used, and the rows past them
     ghost Spare = { GName × ℕ × List R };
@@ -94,11 +60,11 @@ impl<'a, R: RowRule> Policy for Sets<'a, R> {
     ghost spare = { λ p. (p.rows.ghost_name, p.sets, drop p.sets p.rows.now) };
 
     fn s(&self) -> u32 {
-        self.s
+        self.shape.s
     }
 
     fn ways(&self) -> u32 {
-        self.ways
+        self.shape.ways
     }
 
     fn touch(&mut self, line: LineNumber) -> bool {
@@ -106,41 +72,35 @@ impl<'a, R: RowRule> Policy for Sets<'a, R> {
             return false;
         }
         let k = (line.0 & (self.sets as u64 - 1)) as usize;
-        let ways = self.ways as usize;
+        let ways = self.shape.ways as usize;
         self.rows[k].touch(ways, line)
     }
 
     fn empty(&mut self) {
-        let sets = self.sets;
-        clear(self.rows, sets);
+        clear(&mut self.rows[..self.sets]);
     }
 }
 
 impl<'a, R: RowRule> Sets<'a, R> {
     // An empty policy over lent rows. Where the check refuses, it has no sets, and holds nothing for ever.
-    pub fn open(rows: &'a mut [R], s: u32, ways: u32) -> Sets<'a, R>
-        ensures keeps { Ready R.RowRule.model R.RowRule.Fine result.s result.ways result.sets result.rows.now }
-        ensures starts { sets_of R.RowRule.model result.s result.ways result.sets result.rows.now ≡ opened R.RowRule.none s ways (used (length rows.old) s ways) }
-        ensures uses { result.sets ≡ used (length rows.old) s ways }
+    pub fn open(rows: &'a mut [R], shape: Shape) -> Sets<'a, R>
+        ensures keeps { Ready R.model R.Fine result.shape.s result.shape.ways result.sets result.rows.now }
+        ensures starts { sets_of R.model result.shape.s result.shape.ways result.sets result.rows.now ≡ opened R.none shape.s shape.ways (used (length rows.old) shape.s shape.ways) }
+        ensures uses { result.sets ≡ used (length rows.old) shape.s shape.ways }
         ensures spares { drop result.sets result.rows.now ≡ drop result.sets rows.old }
         ensures lends { result.rows.ghost_name ≡ rows.entry.ghost_name }
     {
-        let sets = rows_used(rows.len(), s, ways);
-        clear(rows, sets);
-        Sets {
-            rows,
-            sets,
-            s,
-            ways,
-        }
+        let sets = shape.rows_used(rows.len());
+        clear(&mut rows[..sets]);
+        Sets { rows, sets, shape }
     }
 }
 
 // Opens a policy over lent rows and touches it with each line in turn: how many were held.
-pub fn hits_over<R: RowRule>(rows: &mut [R], s: u32, ways: u32, lines: &[LineNumber]) -> usize
-    ensures count { result ≡ hits (found (λ (q : States R.RowRule.Model). q.slog) (held_in R.RowRule.lines R.RowRule.none)) (next_of R.RowRule.step R.RowRule.none) (opened R.RowRule.none s ways (used (length rows.old) s ways)) (map line_number lines.now) }
-    ensures spares { drop (used (length rows.old) s ways) rows.new ≡ drop (used (length rows.old) s ways) rows.old }
+pub fn hits_over<R: RowRule>(rows: &mut [R], shape: Shape, lines: &[LineNumber]) -> usize
+    ensures count { result ≡ opened_hits R.lines R.step R.none shape.s shape.ways (used (length rows.old) shape.s shape.ways) (map line_number lines.now) }
+    ensures spares { drop (used (length rows.old) shape.s shape.ways) rows.new ≡ drop (used (length rows.old) shape.s shape.ways) rows.old }
 {
-    let mut policy = Sets::open(rows, s, ways);
+    let mut policy = Sets::open(rows, shape);
     touch_all(&mut policy, lines)
 }

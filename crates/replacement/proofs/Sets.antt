@@ -1,6 +1,7 @@
 -- A rule of one row makes a policy; and in each set that policy is its rule run over the set's own touches.
-use Rattle.std.proofs.Common.{◌≡◌, ℕ, zero, suc, ◌+◌, ◌%◌, ◌^◌, ◌<◌, ◌≤◌, true, false, eqb, ◌≢◌, ◌⊎◌, List, [], ◌∷◌, map, length, get_or, take, drop, set, replicate, sym, refl, ap, ◌∙◌, subst, inr, ⊎_elim, suc-le-suc, mod-lt, arith, pow_pos}
+use Rattle.std.proofs.Common.{◌≡◌, ℕ, zero, suc, ◌+◌, ◌%◌, ◌^◌, ◌<◌, ◌≤◌, true, false, eqb, ◌≢◌, ◌⊎◌, List, [], ◌∷◌, ◌++◌, map, length, get_or, take, drop, set, replicate, sym, refl, ap, ◌∙◌, subst, inr, ⊎_elim, suc-le-suc, mod-lt, arith, pow_pos}
 use Rattle.std.proofs.lemmas.List.{map-set, get_or-map, get_or-set_same, get_or-set_other, get_or_past, length-set, length-map, length-replicate, length-take-le, get_or-take}
+use Rattle.std.proofs.Math.Seq.{take-append_seam}
 use Rattle.std.proofs.lemmas.Bool.{cases_eq, cases_lt, cases_Bool, eqb-true, eqb-false, cond-true, cond-false}
 use Rattle.histories.specs.Rule.{held, tally}
 use Rattle.replacement.specs.Lines.{set_of}
@@ -234,21 +235,20 @@ drop_set zero k (y ∷ ys) x l = let z : ⊥ = omega arith in absurd z
 drop_set (suc n) zero (y ∷ ys) x l = refl
 drop_set (suc n) (suc k) (y ∷ ys) x l = drop_set n k ys x (omega arith)
 
-map_blank : {R M : Type 0} (f : R → M) (m : M) (n : ℕ) (rows : List R) → n ≤ length rows → ((k : ℕ) (d : R) → k < n → f (get_or rows k d) ≡ m) → map f (take n rows) ≡ replicate n m
-map_blank f m zero rows l h = refl
-map_blank f m (suc n) [] l h = let z : ⊥ = omega arith in absurd z
-map_blank f m (suc n) (r ∷ rs) l h = ap (λ k. k ∷ map f (take n rs)) (h 0 r (omega arith)) ∙ ap (λ k. m ∷ k) (map_blank f m n rs (omega arith) (λ i d j. h (suc i) d (suc-le-suc j)))
+map_blank : {R M : Type 0} (f : R → M) (m : M) (rows : List R) → ((k : ℕ) (d : R) → k < length rows → f (get_or rows k d) ≡ m) → map f rows ≡ replicate (length rows) m
+map_blank f m [] h = refl
+map_blank f m (r ∷ rs) h = ap (λ k. k ∷ map f rs) (h 0 r (omega arith)) ∙ ap (λ k. m ∷ k) (map_blank f m rs (λ i d j. h (suc i) d (suc-le-suc j)))
 
-module _ {R M : Type 0} (model : ℕ → R → M) {lines : M → List ℕ} {step : ℕ → ℕ → M → M} {none : ℕ → M} {Fine : ℕ → M → Type 0} (laws : RowLaws lines step none Fine) (s w n : ℕ) (rows : List R)
-    (long : n ≤ length rows) (few : 0 < n → w ≤ 16) (blank : Blank model none n rows) where
-  pub clear_opened : sets_of model s w n rows ≡ opened none s w n
-  clear_opened = ap (of_sets s w) (map_blank (model w) (none w) n rows long (λ k d l. blank k d w l (few (omega arith))))
+-- the first n rows are empty, and the rest as before
+module _ {R M : Type 0} (model : ℕ → R → M) (none : ℕ → M) (s w n : ℕ) (rows rest : List R) (all : length rows ≡ n) (few : 0 < n → w ≤ 16) (blank : Blank model none (length rows) rows) where
+  pub clear_opened : sets_of model s w n (rows ++ rest) ≡ opened none s w n
+  clear_opened =
+      let front : take n (rows ++ rest) ≡ rows = ap (λ k. take k (rows ++ rest)) (sym all) ∙ take-append_seam rows rest in
+      let each : map (model w) rows ≡ replicate (length rows) (none w) = map_blank (model w) (none w) rows (λ k d l. blank k d w l (few (omega arith))) in
+      ap (of_sets s w) (ap (map (model w)) front ∙ each ∙ ap (λ k. replicate k (none w)) all)
 
-  pub clear_moves : (was : List R) → n ≤ length was → sets_of model s w n rows ≡ cleared_of none (sets_of model s w n was)
-  clear_moves was long' = clear_opened ∙ ap (λ k. of_sets s w (replicate k (none w))) (sym (length-map (take n was) (model w) ∙ length-take-le n was long'))
-
-  pub clear_ready : (0 < n → n ≡ 2 ^ s) → (0 < n → 0 < w) → Ready model Fine s w n rows
-  clear_ready all some = record { long = long; all = all; some = some; few = few; fine = λ k d l. subst (Fine w) (sym (blank k d w l (few (omega arith)))) (laws.starts w) }
+  pub clear_moves : (was : List R) → n ≤ length was → sets_of model s w n (rows ++ rest) ≡ cleared_of none (sets_of model s w n was)
+  clear_moves was long = clear_opened ∙ ap (λ k. of_sets s w (replicate k (none w))) (sym (length-map (take n was) (model w) ∙ length-take-le n was long))
 
 -- LRU from a state of the program, emptied
 pub recent_from : {R : Type 0} (model : ℕ → R → List Way) (Fine : ℕ → List Way → Type 0) (s w n : ℕ) (rows : List R) → Ready model Fine s w n rows → (k : ℕ) (es : List Event) → k < length (sets_of model s w n rows).sets

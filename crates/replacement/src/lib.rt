@@ -10,8 +10,8 @@ ghost use Rattle.replacement.specs.Sets.{ByRows, LruRecent, OneSetIsOneRow};
 
 use geometry::numbers::LineNumber;
 
-// One way of a set: empty, or with a line and its age.
-#[derive(Clone, Copy)]
+// One way of a set: empty, or with a line and its age. A flag, since an Option of both takes 24 bytes, and a row of 16 ways is promised in 32 words.
+#[derive(Clone, Copy, PartialEq, Eq, Debug)]
 pub struct Way {
     pub line: LineNumber,
     pub age: u8,

@@ -10,11 +10,6 @@ use Rattle.rows.specs.declared.row.Place.TheVariants.{Empty, Oldest}
 abbrev pub replaced : {X : Type 0} {n : ℕ} → Row X n → ℕ → X → Row X n
 replaced d w e = record { ways = slice_set d.ways w e }
 
--- the way that holds line x, if one does
-abbrev pub Found : ℕ → List Way → Option ℕ → Type 0
-Found x m (Some v) = (v ≡ first (has_line x) m) × (v < length m)
-Found x m None = held x (lines m) ≡ false
-
 -- the lowest-numbered empty way, else the lowest-numbered one of the greatest age
 abbrev pub Places : List Way → Place → Type 0
 Places m (Empty v) = (v ≡ first vacant m) × (v < length m)

@@ -6,6 +6,7 @@ ghost use Rattle.std.specs.Prelude.{◌≡◌};
 use crate::lru::LruRow;
 use crate::srrip::SrripRow;
 
+pub mod aged;
 pub mod lru;
 mod row;
 pub mod rule;

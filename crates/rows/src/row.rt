@@ -1,7 +1,8 @@
-ghost use Rattle.std.specs.Prelude.{◌≡◌, ℕ, ◌+◌, ◌<◌, ◌≤◌, true, false, length, take, slice_index_or};
+ghost use Rattle.std.specs.Prelude.{◌≡◌, ℕ, ◌<◌, length, position, slice_index_or};
+ghost use Rattle.replacement.specs.Ways.{has_line};
 ghost use Rattle.std.specs.Borrow.{sem, follows};
 ghost use Rattle.rows.specs.contracts.row.Row.{the_row};
-ghost use Rattle.rows.specs.Rows.{replaced, Found, Places};
+ghost use Rattle.rows.specs.Rows.{replaced, Places};
 
 use geometry::numbers::LineNumber;
 use replacement::Way;
@@ -24,21 +25,30 @@ impl<T, const N: usize> Row<T, N> {
     }
 }
 
-// Of the first n ways, the one that holds the line.
-pub fn find(ways: &[Way], n: usize, line: LineNumber) -> Option<usize>
-    requires { n ≤ length ways.now }
-    ensures { Found line.0 (take n ways.now) result }
+// The ways of one set, which has at most 16.
+pub type WayRow = Row<Way, 16>;
+
+impl WayRow {
+    // A row that holds nothing.
+    pub const EMPTY: WayRow = Row {
+        ways: [Way {
+            line: LineNumber(0),
+            age: 0,
+            held: false,
+        }; 16],
+    };
+}
+
+// The way that holds the line.
+pub fn find(ways: &[Way], line: LineNumber) -> Option<usize>
+    ensures { result ≡ position (has_line line.0) ways.now }
 {
-    for i in 0..n {
-        if ways[i].held & (ways[i].line.0 == line.0) {
-            return Some(i);
-        }
-    }
-    None
+    // without a branch on each way
+    ways.iter().position(|way| way.held & (way.line == line))
 }
 
 // The way that a missed line comes into.
-#[derive(Clone, Copy)]
+#[derive(Clone, Copy, PartialEq, Eq, Debug)]
 pub enum Place {
     // the lowest-numbered empty way
     Empty(usize),
@@ -46,16 +56,14 @@ pub enum Place {
     Oldest(usize, u8),
 }
 
-// Of the first n ways, the one that a missed line comes into.
-pub fn choose(ways: &[Way], n: usize) -> Place
-    requires fits { n ≤ length ways.now }
-    requires some { 0 < n }
-    ensures { Places (take n ways.now) result }
+// The way that a missed line comes into.
+pub fn choose(ways: &[Way]) -> Place
+    requires { 0 < length ways.now }
+    ensures { Places ways.now result }
 {
     let mut oldest = 0;
     let mut age = 0;
-    for i in 0..n {
-        let way = ways[i];
+    for (i, way) in ways.iter().enumerate() {
         if !way.held {
             return Place::Empty(i);
         }

@@ -1,66 +1,49 @@
-ghost use Rattle.std.specs.Prelude.{◌≡◌, ℕ, ◌+◌, ◌<◌, ◌≤◌, List, map, length, take};
+ghost use Rattle.std.specs.Prelude.{◌≡◌, ℕ, ◌+◌, ◌<◌, ◌≤◌, List, map, take};
 ghost use Rattle.replacement.specs.declared.Way.{Way};
-ghost use Rattle.replacement.specs.Ways.{lines as held_lines, empty_row, greatest};
+ghost use Rattle.replacement.specs.Ways.{greatest};
 ghost use Rattle.replacement.specs.Srrip.{risen, touched};
 ghost use Rattle.replacement.proofs.Srrip.{Fine as Low, srrip_laws};
 
-use crate::row::{Place, Row, choose, find};
-use crate::rule::RowRule;
+use crate::aged::{AgedRow, Aging};
+use crate::row::{Place, WayRow, choose, find};
 use geometry::numbers::LineNumber;
 use replacement::Way;
+use std::marker::PhantomData;
 
 // A row of the policy SRRIP. Each way has an age from 0 to 3.
+pub type SrripRow = AgedRow<SrripAging>;
+
 #[derive(Clone, Copy)]
-pub struct SrripRow {
-    row: Row<Way, 16>,
-}
+pub struct SrripAging;
 
 impl SrripRow {
     // A row that holds nothing.
-    pub const EMPTY: SrripRow = SrripRow {
-        row: Row {
-            ways: [Way {
-                line: LineNumber(0),
-                age: 0,
-                held: false,
-            }; 16],
-        },
+    pub const EMPTY: SrripRow = AgedRow {
+        row: WayRow::EMPTY,
+        aging: PhantomData,
     };
+}
 
-    // The ages of the first n ways rise by some number.
-    fn rise(&mut self, n: usize, by: u8)
-        requires few { n ≤ 16 }
-        requires low { greatest (take n self.old.row.ways) + by ≤ 3 }
-        ensures { take n self.new.row.ways ≡ map (risen by) (take n self.old.row.ways) }
-    {
-        for w in 0..n {
-            self.row.at(w).age += by;
-        }
+// The ages rise by some number.
+fn rise(ways: &mut [Way], by: u8)
+    requires { greatest ways.old + by ≤ 3 }
+    ensures { ways.new ≡ map (risen by) ways.old }
+{
+    for way in ways.iter_mut() {
+        way.age += by;
     }
 }
 
-impl RowRule for SrripRow {
-    ghost Model = { List Way };
+impl Aging for SrripAging {
+    ghost touch_of = { touched };
 
-    ghost model = { λ w r. take w r.row.ways };
+    ghost Sound = { Low };
 
-    ghost lines = { held_lines };
+    ghost row_laws = { srrip_laws };
 
-    ghost step = { λ _ x m. touched x m };
-
-    ghost none = { empty_row };
-
-    ghost Fine = { Low };
-
-    ghost laws = { srrip_laws };
-
-    fn blank() -> SrripRow {
-        SrripRow::EMPTY
-    }
-
-    fn touch(&mut self, ways: usize, line: LineNumber) -> bool {
-        if let Some(w) = find(&self.row.ways, ways, line) {
-            self.row.at(w).age = 0;
+    fn touch(row: &mut WayRow, ways: usize, line: LineNumber) -> bool {
+        if let Some(w) = find(&row.ways[..ways], line) {
+            row.at(w).age = 0;
             return true;
         }
         let placed = Way {
@@ -68,12 +51,12 @@ impl RowRule for SrripRow {
             age: 2,
             held: true,
         };
-        match choose(&self.row.ways, ways) {
-            Place::Empty(w) => *self.row.at(w) = placed,
+        match choose(&row.ways[..ways]) {
+            Place::Empty(w) => *row.at(w) = placed,
             Place::Oldest(w, age) => {
                 // all ages rise until the oldest way has age 3
-                self.rise(ways, 3 - age);
-                *self.row.at(w) = placed;
+                rise(&mut row.ways[..ways], 3 - age);
+                *row.at(w) = placed;
             }
         }
         false

@@ -4,4 +4,4 @@ use Rattle.policies.specs.Recent.{lru_row}
 use Rattle.policies.proofs.laws.lru_holds_recent.Goals as goal
 
 pub returns : goal.returns
-returns c = let p = c.args.policy.now in recent_from lru_row Fine p.s p.ways p.sets p.rows.now c.requires
+returns c = let p = c.args.policy.now in recent_from lru_row Fine p.shape.s p.shape.ways p.sets p.rows.now c.requires

@@ -1,6 +1,5 @@
-use Rattle.std.proofs.Common.{◌≡◌, drop}
 use Rattle.replacement.proofs.Sets.{Blank}
 use Rattle.policies.proofs.sets.clear.Given as goal
 
-abbrev pub invariant-loop-k : goal.invariant-loop-k
-invariant-loop-k g l = Blank g.R.RowRule.model g.R.RowRule.none l.k l.rows × (drop l.n l.rows ≡ drop l.n l.initial.rows)
+abbrev pub invariant-loop-row : goal.invariant-loop-row
+invariant-loop-row g l = Blank g.R.RowRule.model g.R.RowRule.none l.row-index l.rows

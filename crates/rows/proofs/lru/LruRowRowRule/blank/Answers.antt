@@ -1,6 +1,0 @@
-use Rattle.std.proofs.lemmas.List.{take-replicate}
-use Rattle.replacement.specs.Ways.{no_way}
-use Rattle.rows.proofs.lru.LruRowRowRule.blank.Goals as goal
-
-pub returns : goal.returns
-returns c w h = take-replicate w 16 no_way h
