@@ -1,5 +1,5 @@
 -- The first line of a text, and the text from its lines.
-use Rattle.std.proofs.Common.{◌≡◌, ℕ, ◌+◌, ◌<◌, Bool, true, false, cond, eqb, ◌⊎◌, List, [], ◌∷◌, ◌++◌, length, take, drop, sym, refl, ap, ◌∙◌, subst, inl, inr, ⊎_elim, arith, length-drop, take-append-drop, rules, eqb-true}
+use Rattle.std.proofs.Common.{◌≡◌, ℕ, ◌+◌, ◌<◌, Bool, true, false, ◌==◌, if◌then◌else◌, ◌⊎◌, List, [], ◌∷◌, ◌++◌, length, take, drop, sym, refl, ap, ◌∙◌, subst, inl, inr, ⊎_elim, arith, length-drop, take-append-drop, rules, eqb-true}
 use Rattle.std.specs.List.{between, AllByRecursion}
 use Rattle.std.proofs.lemmas.Bool.{cases_lt}
 use Rattle.std.proofs.lemmas.List.{drop_all, drop_more, take_all, take_rest, drop-drop}
@@ -8,7 +8,7 @@ use Rattle.notations.specs.Text.{onto, lines, ended, Rejoins, LongestWithout}
 abbrev Free : List ℕ → Type 0
 Free l = AllByRecursion (λ b. b ≡ 10 → ⊥) l
 
-other : (b : ℕ) → (b ≡ 10 → ⊥) → eqb b 10 ≡ false
+other : (b : ℕ) → (b ≡ 10 → ⊥) → (b == 10) ≡ false
 other b ne = search rules
 
 lines_ended : (l rest : List ℕ) → Free l → lines (l ++ 10 ∷ rest) ≡ l ∷ lines rest
@@ -38,23 +38,27 @@ last_line {bs} {line} {end} {n} h front back none some =
     let rest : end ≡ [] = back ∙ drop_all n bs (omega arith) in
     some_last bs some (subst Free whole h.free) ∙ (λ i. sym (front ∙ whole) i ∷ lines (sym rest i))
 
+-- these lines hold no LF, and with their LFs they are the text, or the text and the LF that its last line lacks
+abbrev Whole : List (List ℕ) → List ℕ → Type 0
+Whole ls text = AllByRecursion Free ls × ((ended ls ≡ text) ⊎ (ended ls ≡ text ++ 10 ∷ []))
+
 -- one byte before the lines of a text
-before : (b : ℕ) (bs : List ℕ) (ls : List (List ℕ)) → (b ≡ 10 → ⊥) → AllByRecursion Free ls → (ended ls ≡ bs) ⊎ (ended ls ≡ bs ++ 10 ∷ []) → AllByRecursion Free (onto b ls) × ((ended (onto b ls) ≡ b ∷ bs) ⊎ (ended (onto b ls) ≡ (b ∷ bs) ++ 10 ∷ []))
-before b bs [] ne free e =
-    (((ne, tt), tt), ⊎_elim (λ f. inr (ap (λ r. b ∷ (r ++ 10 ∷ [])) f)) (λ f. absurd (no_text bs f)) e)
+before : (b : ℕ) (bs : List ℕ) (ls : List (List ℕ)) → (b ≡ 10 → ⊥) → Whole ls bs → Whole (onto b ls) (b ∷ bs)
+before b bs [] ne whole =
+    (((ne, tt), tt), ⊎_elim (λ f. inr (ap (λ r. b ∷ (r ++ 10 ∷ [])) f)) (λ f. absurd (no_text bs f)) whole.1)
   where
     no_text : (bs : List ℕ) → [] ≡ bs ++ 10 ∷ [] → ⊥
-    no_text [] f = let n = ap length f in omega arith
-    no_text (x ∷ bs) f = let n = ap length f in omega arith
-before b bs (l ∷ ls) ne free e =
-    (((ne, free.0), free.1), ⊎_elim (λ f. inl (ap (λ r. b ∷ r) f)) (λ f. inr (ap (λ r. b ∷ r) f)) e)
+    no_text [] f = cc
+    no_text (x ∷ bs) f = cc
+before b bs (l ∷ ls) ne whole =
+    (((ne, whole.0.0), whole.0.1), ⊎_elim (λ f. inl (ap (λ r. b ∷ r) f)) (λ f. inr (ap (λ r. b ∷ r) f)) whole.1)
 
 pub rejoins : Rejoins
 rejoins [] = (tt, inl refl)
-rejoins (b ∷ bs) = go (eqb b 10) refl (rejoins bs)
+rejoins (b ∷ bs) = go (b == 10) refl (rejoins bs)
   where
-    go : (t : Bool) → eqb b 10 ≡ t → AllByRecursion Free (lines bs) × ((ended (lines bs) ≡ bs) ⊎ (ended (lines bs) ≡ bs ++ 10 ∷ [])) → AllByRecursion Free (cond t ([] ∷ lines bs) (onto b (lines bs))) × ((ended (cond t ([] ∷ lines bs) (onto b (lines bs))) ≡ b ∷ bs) ⊎ (ended (cond t ([] ∷ lines bs) (onto b (lines bs))) ≡ (b ∷ bs) ++ 10 ∷ []))
+    go : (t : Bool) → (b == 10) ≡ t → Whole (lines bs) bs → Whole (if t then [] ∷ lines bs else onto b (lines bs)) (b ∷ bs)
     go true is h =
         let lf : 10 ≡ b = sym (eqb-true b 10 is) in
         ((tt, h.0), ⊎_elim (λ e. inl (λ i. lf i ∷ e i)) (λ e. inr (λ i. lf i ∷ e i)) h.1)
-    go false is h = before b bs (lines bs) (λ e. let z : eqb b 10 ≡ true = ap (λ x. eqb x 10) e in cc) h.0 h.1
+    go false is h = before b bs (lines bs) (λ e. let z : (b == 10) ≡ true = ap (λ x. x == 10) e in cc) h

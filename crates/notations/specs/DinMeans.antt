@@ -1,5 +1,5 @@
 -- din: how its lines go on, where they do not, and that a line is one record at most.
-use Rattle.std.specs.Prelude.{◌≡◌, ℕ, ◌+◌, ◌-◌, ◌^◌, ◌<◌, ◌≤◌, cond, ◌⊎◌, List, [], ◌∷◌, ◌++◌, length, take, drop, Some as Just, None, Option, ◌==◌, ◌≢◌, slice_index, slice_index_or, refl}
+use Rattle.std.specs.Prelude.{◌≡◌, ℕ, ◌+◌, ◌-◌, ◌^◌, ◌<◌, ◌≤◌, if◌then◌else◌, ◌⊎◌, List, [], ◌∷◌, ◌++◌, length, take, drop, Some as Just, None, Option, ◌==◌, ◌≢◌, slice_index, slice_index_or, refl}
 use Rattle.std.proofs.Common.{sym, ap, subst, ◌∙◌, inl, inr, ⊎_elim, append_assoc, arith, length-append, length-drop, take-append-drop}
 use Rattle.std.proofs.lemmas.List.{take_all, length-take-le, length_push, drop_all, drop_more, take_rest, get_or-drop}
 use Rattle.std.proofs.lemmas.Bool.{cases_lt}
@@ -84,7 +84,7 @@ after_digits indent mark gap ds m h l k some digits any few rest t d =
 
 -- the kind of a label
 kind_of : ℕ → Kind
-kind_of m = cond (m == 48) Load (cond (m == 49) Store Fetch)
+kind_of m = if m == 48 then Load else (if m == 49 then Store else Fetch)
 
 label_of : (m : ℕ) → IsLabel m → label (kind_of m) ≡ Just m
 unfolding kind_of

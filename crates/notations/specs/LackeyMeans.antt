@@ -1,5 +1,5 @@
 -- Lackey: how its lines go on, where they do not, and that a line is one record at most.
-use Rattle.std.specs.Prelude.{◌≡◌, ℕ, ◌+◌, ◌-◌, ◌<◌, ◌≤◌, cond, ◌⊎◌, List, [], ◌∷◌, ◌++◌, length, take, drop, ◌==◌, ◌≢◌, slice_index, slice_index_or, refl}
+use Rattle.std.specs.Prelude.{◌≡◌, ℕ, ◌+◌, ◌-◌, ◌<◌, ◌≤◌, if◌then◌else◌, ◌⊎◌, List, [], ◌∷◌, ◌++◌, length, take, drop, ◌==◌, ◌≢◌, slice_index, slice_index_or, refl}
 use Rattle.std.proofs.Common.{sym, ap, subst, ◌∙◌, inl, inr, ⊎_elim, append_assoc, append-nil, arith, length-append, length-drop, take-append-drop}
 use Rattle.std.proofs.ByRecursion.{All-get_or}
 use Rattle.std.proofs.lemmas.List.{take_all, length-take-le, drop_more, get_or-drop}
@@ -53,7 +53,7 @@ same_rest : (k l : Kind) (r s : List ℕ) → prefix k ++ r ≡ prefix l ++ s �
 same_rest k l r s e = sym (after_prefix k r) ∙ ap (drop 3) e ∙ after_prefix l s
 
 named : List ℕ → Kind
-named line = cond (slice_index line 0 == 73) Fetch (cond (slice_index line 1 == 76) Load (cond (slice_index line 1 == 83) Store Modify))
+named line = if slice_index line 0 == 73 then Fetch else (if slice_index line 1 == 76 then Load else (if slice_index line 1 == 83 then Store else Modify))
 
 named_prefix : (k : Kind) (rest : List ℕ) → named (prefix k ++ rest) ≡ k
 unfolding named

@@ -1,5 +1,5 @@
 -- The lines of a text: each ends at an LF, which the last may lack.
-use Rattle.std.specs.Prelude.{◌≡◌, ℕ, ◌<◌, ◌≤◌, cond, ◌⊎◌, List, [], ◌∷◌, ◌++◌, length, take, ◌==◌, ◌≢◌, slice_index}
+use Rattle.std.specs.Prelude.{◌≡◌, ℕ, ◌<◌, ◌≤◌, if◌then◌else◌, ◌⊎◌, List, [], ◌∷◌, ◌++◌, length, take, ◌==◌, ◌≢◌, slice_index}
 use Rattle.std.specs.List.{AllByRecursion}
 
 -- b at the front of the first line
@@ -9,7 +9,7 @@ onto b (l ∷ ls) = (b ∷ l) ∷ ls
 
 abbrev pub lines : List ℕ → List (List ℕ)
 lines [] = []
-lines (b ∷ bs) = cond (b == 10) ([] ∷ lines bs) (onto b (lines bs))
+lines (b ∷ bs) = if b == 10 then [] ∷ lines bs else onto b (lines bs)
 
 -- each line with its LF
 abbrev pub ended : List (List ℕ) → List ℕ
