@@ -5,6 +5,7 @@ use crate::sets::Lru;
 use rows::rule::RowRule;
 
 // Opened where the check refuses, a policy holds nothing for ever.
+#[tactic(auto, using(crate::proofs::Memory::holds_nothing))]
 pub fn holds_nothing_without_room<R: RowRule>()
     ensures { HoldsNothing R.lines R.step R.none }
 {}

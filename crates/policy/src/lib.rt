@@ -70,6 +70,7 @@ pub fn touch_all<P: Policy>(policy: &mut P, lines: &[LineNumber]) -> usize
     ensures moves { P.state policy.new ≡ after P.next (P.state policy.old) (map line_number lines.now) }
     ensures spares { P.spare policy.new ≡ P.spare policy.old }
 {
+    // a loop, since nothing is known of a closure under `filter` that changes what it captures
     let mut hits = 0;
     for line in lines {
         if policy.touch(*line) {

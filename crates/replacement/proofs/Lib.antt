@@ -5,4 +5,3 @@ pub mod Ranks
 pub mod Lru
 pub mod Srrip
 pub mod Sets
-pub mod Runs

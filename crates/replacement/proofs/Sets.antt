@@ -1,6 +1,6 @@
 -- A rule of one row makes a policy; and in each set that policy is its rule run over the set's own touches.
-use Rattle.std.proofs.Common.{◌≡◌, ℕ, zero, suc, ◌+◌, ◌%◌, ◌^◌, ◌<◌, ◌≤◌, true, false, eqb, ◌≢◌, ◌⊎◌, List, [], ◌∷◌, ◌++◌, map, length, get_or, take, drop, set, replicate, sym, refl, ap, ◌∙◌, subst, inr, ⊎_elim, suc-le-suc, mod-lt, arith, pow_pos}
-use Rattle.std.proofs.lemmas.List.{map-set, get_or-map, get_or-set_same, get_or-set_other, get_or_past, length-set, length-map, length-replicate, length-take-le, get_or-take}
+use Rattle.std.proofs.Common.{◌≡◌, ℕ, zero, suc, ◌+◌, ◌%◌, ◌^◌, ◌<◌, ◌≤◌, true, false, eqb, ◌≢◌, ◌⊎◌, List, [], ◌∷◌, ◌++◌, map, length, get_or, take, set, replicate, sym, refl, ap, ◌∙◌, subst, inr, ⊎_elim, suc-le-suc, mod-lt, arith, pow_pos}
+use Rattle.std.proofs.lemmas.List.{set_past, length-append, get_or_append_left, map-set, get_or-map, get_or-set_same, get_or-set_other, get_or_past, length-set, length-map, length-replicate, length-take-le, get_or-take}
 use Rattle.std.proofs.Math.Seq.{take-append_seam}
 use Rattle.std.proofs.lemmas.Bool.{cases_eq, cases_lt, cases_Bool, eqb-true, eqb-false, cond-true, cond-false}
 use Rattle.histories.specs.Rule.{held, tally}
@@ -18,12 +18,6 @@ pub get_or_none : {M : Type 0} (n k : ℕ) (m : M) → get_or (replicate n m) k 
 get_or_none zero k m = refl
 get_or_none (suc n) zero m = refl
 get_or_none (suc n) (suc k) m = get_or_none n k m
-
--- past the end nothing is set
-set_past : {X : Type 0} (xs : List X) (k : ℕ) (x : X) → length xs ≤ k → set xs k x ≡ xs
-set_past [] k x h = refl
-set_past (y ∷ ys) zero x h = let z : ⊥ = omega arith in absurd z
-set_past (y ∷ ys) (suc k) x h = ap (λ r. y ∷ r) (set_past ys k x (omega arith))
 
 abbrev of_sets : {M : Type 0} → ℕ → ℕ → List M → Sets M
 of_sets s w l = record { slog = s; wide = w; sets = l }
@@ -190,50 +184,11 @@ module _ {R M : Type 0} (model : ℕ → R → M) (step : ℕ → ℕ → M → 
       ∙ ap (set (map (model w) (take n rows)) k) (m ∙ ap (step w x) (sym (set_at model step none s w n x rows long all k r e h)))
       ∙ ap (λ j. set (map (model w) (take n rows)) j (step w x (at none (sets_of model s w n rows) (set_of s x)))) e)
 
--- a policy with no rows
-module _ {R M : Type 0} (model : ℕ → R → M) {lines : M → List ℕ} {step : ℕ → ℕ → M → M} {none : ℕ → M} {Fine : ℕ → M → Type 0} (laws : RowLaws lines step none Fine) (s w n x : ℕ) (rows : List R) (z : n ≡ 0) where
-  pub idle_moves : sets_of model s w n rows ≡ next_of step none (sets_of model s w n rows) x
-  idle_moves = subst (λ k. sets_of model s w k rows ≡ next_of step none (sets_of model s w k rows) x) (sym z) refl
-
-  pub idle_misses : false ≡ held x (held_in lines none (sets_of model s w n rows) (set_of s x))
-  idle_misses = subst (λ k. false ≡ held x (held_in lines none (sets_of model s w k rows) (set_of s x))) (sym z) (ap (held x) (sym (laws.nothing w)))
-
--- a touch of one row leaves the policy ready
-pub ready_set : {R M : Type 0} (model : ℕ → R → M) {lines : M → List ℕ} {step : ℕ → ℕ → M → M} {none : ℕ → M} {Fine : ℕ → M → Type 0} (laws : RowLaws lines step none Fine) (s w n k x : ℕ) (rows : List R) (r t : R)
-    → Ready model Fine s w n rows → k < n → r ≡ get_or rows k r → model w t ≡ step w x (model w r) → Ready model Fine s w n (set rows k t)
-ready_set {R} model {step = step} {Fine = Fine} laws s w n k x rows r t h l is m =
-    let p : 0 < w = h.some (omega arith) in
-    let was : Fine w (model w r) = subst (λ (e : R). Fine w (model w e)) (sym is) (h.fine k r l) in
-    let new : Fine w (model w t) = subst (Fine w) (sym m) (laws.stays w x (model w r) p was) in
-    record {
-      long = let e = length-set rows k t in let a = h.long in omega (arith, e, a);
-      all = h.all;
-      some = h.some;
-      few = h.few;
-      fine = λ i d j. ⊎_elim
-          (λ (e : i ≡ k). let here : k < length rows = let a = h.long in omega (arith, a, l) in rw (e, get_or-set_same rows k t d here) new)
-          (λ (ne : i ≢ k). rw (get_or-set_other rows k i t d ne) (h.fine i d j))
-          (cases_eq i k);
-    }
-
 -- ---- clearing
 
 -- the first i rows are empty
 abbrev pub Blank : {R M : Type 0} → (ℕ → R → M) → (ℕ → M) → ℕ → List R → Type 0
 Blank {R} model none i rows = (k : ℕ) (d : R) (w : ℕ) → k < i → w ≤ 16 → model w (get_or rows k d) ≡ none w
-
-pub blank_more : {R M : Type 0} (model : ℕ → R → M) (none : ℕ → M) (rows : List R) (i : ℕ) (b : R) → i < length rows → ((w : ℕ) → w ≤ 16 → model w b ≡ none w) → Blank model none i rows → Blank model none (i + 1) (set rows i b)
-blank_more model none rows i b l p h k d w j m =
-    ⊎_elim
-    (λ (e : k ≡ i). rw (e, get_or-set_same rows i b d l) (p w m))
-    (λ (ne : k ≢ i). rw (get_or-set_other rows i k b d ne) (h k d w (omega arith) m))
-    (cases_eq k i)
-
-pub drop_set : {X : Type 0} (n k : ℕ) (xs : List X) (x : X) → k < n → drop n (set xs k x) ≡ drop n xs
-drop_set n k [] x l = refl
-drop_set zero k (y ∷ ys) x l = let z : ⊥ = omega arith in absurd z
-drop_set (suc n) zero (y ∷ ys) x l = refl
-drop_set (suc n) (suc k) (y ∷ ys) x l = drop_set n k ys x (omega arith)
 
 map_blank : {R M : Type 0} (f : R → M) (m : M) (rows : List R) → ((k : ℕ) (d : R) → k < length rows → f (get_or rows k d) ≡ m) → map f rows ≡ replicate (length rows) m
 map_blank f m [] h = refl
@@ -249,6 +204,19 @@ module _ {R M : Type 0} (model : ℕ → R → M) (none : ℕ → M) (s w n : �
 
   pub clear_moves : (was : List R) → n ≤ length was → sets_of model s w n (rows ++ rest) ≡ cleared_of none (sets_of model s w n was)
   clear_moves was long = clear_opened ∙ ap (λ k. of_sets s w (replicate k (none w))) (sym (length-map (take n was) (model w) ∙ length-take-le n was long))
+
+  pub clear_ready : {lines : M → List ℕ} {step : ℕ → ℕ → M → M} {Fine : ℕ → M → Type 0} (laws : RowLaws lines step none Fine) → (0 < n → n ≡ 2 ^ s) → (0 < n → 0 < w) → Ready model Fine s w n (rows ++ rest)
+  clear_ready {Fine = Fine} laws pow some =
+      let long = length-append rows rest in
+      record {
+        long = omega (arith, long, all);
+        all = pow;
+        some = some;
+        few = few;
+        fine = λ k d l.
+            let inside : k < length rows = omega (arith, l, all) in
+            subst (Fine w) (sym (ap (model w) (get_or_append_left rows rest d k inside) ∙ blank k d w inside (few (omega arith)))) (laws.starts w);
+      }
 
 -- LRU from a state of the program, emptied
 pub recent_from : {R : Type 0} (model : ℕ → R → List Way) (Fine : ℕ → List Way → Type 0) (s w n : ℕ) (rows : List R) → Ready model Fine s w n rows → (k : ℕ) (es : List Event) → k < length (sets_of model s w n rows).sets

@@ -1,10 +1,10 @@
 -- Rows of ways: the lines that they hold, and the first way that passes a test.
-use Rattle.std.proofs.Common.{position, Some, None, ◌≡◌, ℕ, zero, suc, ◌+◌, ◌-◌, ◌<◌, ◌≤◌, Bool, true, false, cond, ltb, List, [], ◌∷◌, ◌++◌, map, length, get_or, take, drop, set, sym, refl, ap, ◌∙◌, subst, ⊎_elim, append-nil, le_of_suc-le-suc, not-suc-le-zero, arith}
-use Rattle.std.proofs.lemmas.Bool.{cases_Bool, le-ltb, ltb-true}
+use Rattle.std.proofs.Common.{position, Some, None, ◌≡◌, ℕ, zero, suc, ◌+◌, ◌-◌, ◌<◌, ◌≤◌, Bool, true, false, cond, ltb, List, [], ◌∷◌, ◌++◌, map, length, get_or, take, drop, set, sym, refl, ap, ◌∙◌, ⊎_elim, le_of_suc-le-suc, not-suc-le-zero, arith}
+use Rattle.std.proofs.lemmas.Bool.{cases_Bool, ltb-true}
 use Rattle.std.proofs.lemmas.Bool.Decides.{nat_tests}
 use Rattle.std.specs.List.{position_or_len}
 use Rattle.std.proofs.lemmas.List.Recursion.{is_position_or_len}
-use Rattle.std.proofs.lemmas.List.{drop_more, drop_all, take_all, get_or-take, get_or-drop, get_or-append_right, get_or_default, length-take, length-take-le, length-map}
+use Rattle.std.proofs.lemmas.List.{drop_all, get_or-drop, get_or-append_right, get_or_default, length-take-le, length-map}
 use Rattle.std.proofs.lemmas.List.Edits.{map_over_more}
 use Rattle.std.proofs.Math.Seq.{take-append_seam}
 use Rattle.replacement.specs.declared.Way.{Way}
@@ -25,10 +25,6 @@ has_way zero (e ∷ es) h = grind (arith, nat_tests)
 has_way (suc v) (e ∷ es) h = grind (arith, nat_tests, has_way v es)
 
 -- ---- the first way that passes a test
-
-pub first_le : (p : Way → Bool) (m : List Way) → first p m ≤ length m
-first_le p [] = omega arith
-first_le p (e ∷ es) = grind (arith, first_le p es)
 
 pub first_passes : (p : Way → Bool) (m : List Way) → first p m < length m → p (get_or m (first p m) no_way) ≡ true
 first_passes p [] l = absurd (not-suc-le-zero l)
@@ -71,13 +67,6 @@ found_none x m e = sym (first_has x m) ∙ ap (λ k. ltb k (length m)) (first_po
 abbrev pub Seeking : (Way → Bool) → List Way → ℕ → Type 0
 Seeking p m i = first p m ≡ i + first p (drop i m)
 
-module _ (p : Way → Bool) (m : List Way) (i : ℕ) (l : i < length m) where
-  pub seek_more : p (get_or m i no_way) ≡ false → Seeking p m i → Seeking p m (i + 1)
-  seek_more f s = s ∙ rw (drop_more m i no_way l, f) (omega arith)
-
-  pub seek_here : p (get_or m i no_way) ≡ true → Seeking p m i → i ≡ first p m
-  seek_here t s = sym (s ∙ rw (drop_more m i no_way l, t) (omega arith))
-
 -- for an empty way, and meanwhile for the greatest age, of which way v, of age a, is the first so far
 abbrev old_end : ℕ → ℕ → ℕ → List Way → ℕ
 old_end i v a [] = v
@@ -106,17 +95,6 @@ pub record Choosing (m : List Way) (i v a : ℕ) : Type 0 where
 
 pub choose_none : (m : List Way) → Choosing m 0 0 0
 choose_none m = record { gap = omega arith; old = old_oldest 0 0 0 m ∙ grind (arith, nat_tests, oldest_zero m); age = age_greatest 0 m ∙ grind (arith, nat_tests) }
-
-pub choose_more : (m : List Way) (i v a : ℕ) → i < length m → vacant (get_or m i no_way) ≡ false → Choosing m i v a → (v' a' : ℕ)
-    → v' ≡ cond (ltb a (get_or m i no_way).age) i v → a' ≡ cond (ltb a (get_or m i no_way).age) (get_or m i no_way).age a → Choosing m (i + 1) v' a'
-choose_more m i v a l f s v' a' ev ea =
-    let e = get_or m i no_way in
-    let rest_is : drop i m ≡ e ∷ drop (i + 1) m = drop_more m i no_way l in
-    record {
-      gap = seek_more vacant m i l f s.gap;
-      old = ap (λ k. old_end (i + 1) k a' (drop (i + 1) m)) ev ∙ ap (λ k. old_end (i + 1) (cond (ltb a e.age) i v) k (drop (i + 1) m)) ea ∙ sym (ap (old_end i v a) rest_is) ∙ s.old;
-      age = ap (λ k. age_end k (drop (i + 1) m)) ea ∙ sym (ap (age_end a) rest_is) ∙ s.age;
-    }
 
 pub choose_all : (m : List Way) (i v a : ℕ) → 0 < length m → length m ≤ i → i ≤ length m → Choosing m i v a
     → (first vacant m ≡ length m) × (v ≡ oldest m) × (a ≡ greatest m) × (v < length m)

@@ -19,6 +19,7 @@ pub struct Way {
 }
 
 // A row under LRU holds exactly the lines touched most recently, as many as it has ways; a held line was touched later than any that is not held; the line that leaves is the one whose latest touch is oldest; a line's age is the number of held lines touched since.
+#[tactic(auto, using(crate::proofs::Lru::keeps_recent, crate::proofs::Lru::touched_later, crate::proofs::Lru::leaves_oldest, crate::proofs::Lru::ages_tell))]
 pub fn lru_keeps_recent()
     ensures holds { KeepsRecent }
     ensures later { TouchedLater }
@@ -34,6 +35,7 @@ pub fn sets_go_by_rows()
 {}
 
 // Under SRRIP no age passes 3; the rises always lead to a victim; and it is the lowest-numbered way of the greatest age.
+#[tactic(auto, using(crate::proofs::Srrip::ages_low, crate::proofs::Srrip::ripens, crate::proofs::Srrip::evicts_oldest))]
 pub fn srrip_evicts_oldest()
     ensures ages { AgesLow }
     ensures ripens { Ripens }

@@ -1,8 +1,7 @@
 -- A row with one of its entries replaced, and what is looked for in a row.
-use Rattle.std.specs.Prelude.{◌≡◌, ℕ, ◌<◌, false, List, length, Some, None, Option, slice_set}
+use Rattle.std.specs.Prelude.{◌≡◌, ℕ, ◌<◌, List, length, slice_set}
 use Rattle.replacement.specs.declared.Way.{Way}
-use Rattle.histories.specs.Rule.{held}
-use Rattle.replacement.specs.Ways.{lines, first, has_line, vacant, oldest, greatest}
+use Rattle.replacement.specs.Ways.{first, vacant, oldest, greatest}
 use Rattle.rows.specs.declared.row.Row.{Row}
 use Rattle.rows.specs.declared.row.Place.{Place}
 use Rattle.rows.specs.declared.row.Place.TheVariants.{Empty, Oldest}

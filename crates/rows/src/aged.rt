@@ -11,23 +11,24 @@ use std::marker::PhantomData;
 
 // How the ways of a row age: what a touch makes of them.
 pub trait Aging: Copy {
-    ghost touch_of: { ℕ → List Way → List Way };
+    // the ways after a touch of a line
+    ghost step: { ℕ → List Way → List Way };
 
     // what the ways of every row that can be reached keep
-    ghost Sound: { ℕ → List Way → Type 0 };
+    ghost Fine: { ℕ → List Way → Type 0 };
 
-    ghost row_laws: { RowLaws held_lines (λ _ x m. touch_of x m) empty_row Sound };
+    ghost laws: { RowLaws held_lines (λ _ x m. step x m) empty_row Fine };
 
     // Touches a line in the first `ways` ways of a row: whether it was held.
     fn touch(row: &mut WayRow, ways: usize, line: LineNumber) -> bool
         requires few { ways ≤ 16 }
         requires some { 0 < ways }
-        requires fine { Sound ways (take ways row.old.ways) }
-        ensures moves { take ways row.new.ways ≡ touch_of line.0 (take ways row.old.ways) }
+        requires fine { Fine ways (take ways row.old.ways) }
+        ensures moves { take ways row.new.ways ≡ step line.0 (take ways row.old.ways) }
         ensures answer { result ≡ held line.0 (held_lines (take ways row.old.ways)) };
 }
 
-// A row of ways with ages.
+// A row of ways with ages. `EMPTY` stands with each rule, since a proof knows no value of a generic constant.
 #[derive(Clone, Copy)]
 pub struct AgedRow<A> {
     pub(crate) row: WayRow,
@@ -41,13 +42,13 @@ impl<A: Aging> RowRule for AgedRow<A> {
 
     ghost lines = { held_lines };
 
-    ghost step = { λ _ x m. A.touch_of x m };
+    ghost step = { λ _ x m. A.step x m };
 
     ghost none = { empty_row };
 
-    ghost Fine = { A.Sound };
+    ghost Fine = { A.Fine };
 
-    ghost laws = { A.row_laws };
+    ghost laws = { A.laws };
 
     fn blank() -> AgedRow<A> {
         AgedRow {

@@ -12,6 +12,7 @@ use std::marker::PhantomData;
 // A row of the policy LRU. A way's age is the number of held lines touched since its own: 0 for the latest.
 pub type LruRow = AgedRow<LruAging>;
 
+// The rule LRU.
 #[derive(Clone, Copy)]
 pub struct LruAging;
 
@@ -33,11 +34,11 @@ fn make_older(ways: &mut [Way], limit: u8)
 }
 
 impl Aging for LruAging {
-    ghost touch_of = { touched };
+    ghost step = { touched };
 
-    ghost Sound = { Ordered };
+    ghost Fine = { Ordered };
 
-    ghost row_laws = { lru_laws };
+    ghost laws = { lru_laws };
 
     fn touch(row: &mut WayRow, ways: usize, line: LineNumber) -> bool {
         let fresh = Way {

@@ -13,6 +13,7 @@ use std::marker::PhantomData;
 // A row of the policy SRRIP. Each way has an age from 0 to 3.
 pub type SrripRow = AgedRow<SrripAging>;
 
+// The rule SRRIP.
 #[derive(Clone, Copy)]
 pub struct SrripAging;
 
@@ -35,11 +36,11 @@ fn rise(ways: &mut [Way], by: u8)
 }
 
 impl Aging for SrripAging {
-    ghost touch_of = { touched };
+    ghost step = { touched };
 
-    ghost Sound = { Low };
+    ghost Fine = { Low };
 
-    ghost row_laws = { srrip_laws };
+    ghost laws = { srrip_laws };
 
     fn touch(row: &mut WayRow, ways: usize, line: LineNumber) -> bool {
         if let Some(w) = find(&row.ways[..ways], line) {

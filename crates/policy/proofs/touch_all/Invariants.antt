@@ -1,11 +1,19 @@
-use Rattle.std.proofs.Common.{◌≡◌}
-use Rattle.replacement.specs.Policy.{found}
-use Rattle.replacement.proofs.Runs.{Going}
+use Rattle.std.proofs.Common.{◌≡◌, ◌+◌, ◌≤◌, map, drop}
+use Rattle.replacement.specs.Policy.{found, hits, after}
 use Rattle.policy.specs.Numbers.{line_number}
 use Rattle.policy.proofs.touch_all.Given as goal
 
+-- the lines that are left give the rest of the answer
 abbrev pub invariant-loop-line : goal.invariant-loop-line
 invariant-loop-line g l =
     let m = g.P.Policy in
-    Going line_number (found m.slog m.holds) m.next (m.state l.initial.policy) l.lines l.line-index l.hits (m.state l.policy)
-    × m.ready l.policy × (m.spare l.policy ≡ m.spare l.initial.policy)
+    let hit = found m.slog m.holds in
+    let left = map line_number (drop l.line-index l.lines) in
+    let all = map line_number l.lines in
+    record {
+      ready : m.ready l.policy;
+      few : l.hits ≤ l.line-index;
+      count : l.hits + hits hit m.next (m.state l.policy) left ≡ hits hit m.next (m.state l.initial.policy) all;
+      moves : after m.next (m.state l.policy) left ≡ after m.next (m.state l.initial.policy) all;
+      spares : m.spare l.policy ≡ m.spare l.initial.policy;
+    }

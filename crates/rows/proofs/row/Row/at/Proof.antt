@@ -1,6 +1,7 @@
 -- `at` lends one entry, and the entries follow it, for every entry type and every number of entries. Assumes `Logic`.
 -- The code is four statements: the offset w * size, the array's address, the entry's address, the result. So the proof is: what lies in memory is taken apart (`lends`), the walk over the statements (`walk`), and the way to the statement.
-use Rattle.std.proofs.Common.{◌≡◌, ℕ, zero, suc, ◌+◌, ◌*◌, ◌^◌, ◌<◌, max, List, [], ◌∷◌, length, get_or, set, sym, refl, ap, ◌∙◌, subst, le_of_suc-le-suc, not-suc-le-zero, le_of_lt, mul-le-mul_right, arith, length-set, w64}
+use Rattle.std.proofs.Common.{◌≡◌, ℕ, ◌+◌, ◌*◌, ◌^◌, ◌<◌, max, List, [], ◌∷◌, length, get_or, set, sym, refl, ap, ◌∙◌, subst, not-suc-le-zero, le_of_lt, mul-le-mul_right, arith, length-set, w64}
+use Rattle.std.proofs.lemmas.List.{get_or_default}
 use seplogic.Ra.Ura.{Ura}
 use base.Fraction.{full_share}
 use base.Logic.{SProp, ent, sep, ex, guard, wand, all_e, apply∗}
@@ -56,11 +57,6 @@ use Rattle.rows.proofs.row.Row.at.Code as code
 hd : {X : Type 0} (xs : List X) → 0 < length xs → X
 hd [] h = absurd (not-suc-le-zero h)
 hd (x ∷ xs) h = x
-
-any_default : {X : Type 0} (xs : List X) (i : ℕ) (d e : X) → i < length xs → get_or xs i d ≡ get_or xs i e
-any_default [] i d e h = absurd (not-suc-le-zero h)
-any_default (x ∷ xs) zero d e h = refl
-any_default (x ∷ xs) (suc i) d e h = any_default xs i d e (le_of_suc-le-suc h)
 
 module _ (Y : RattleType) (N : ℕ) where
   abbrev X : Type 0
@@ -155,7 +151,7 @@ module _ (Y : RattleType) (N : ℕ) where
             move ! (1 ∷ 2 ∷ []) $ join ! $ move ! (2 ∷ 3 ∷ 4 ∷ 1 ∷ 0 ∷ []) $ group ! 5 $
             use1 𝓛 (later (some (λ (γ' : GName). raw (Part 𝓛 S R (replaced d i) (named 0) κ q b o b (i * s + o) γ Rest (back l) x γ'))))
             (lends_Part 𝓛 S R (replaced d i) (named 0) κ q b o b (i * s + o) γ Rest (back l) (S.coded.code d) (S.coded.code d) x) $ await ! tt $ pick ! (λ γ'.
-            now ! $ show ! Lent (x, γ') $ check ! (λ c. any_default xs i e c lt, l) $ done !))
+            now ! $ show ! Lent (x, γ') $ check ! (λ c. get_or_default xs i e c lt, l) $ done !))
 
     -- ---- the walk
     module _ (memory : Memory → SProp 𝓤) (run : Routine → Fun 𝓤) where
