@@ -1,7 +1,7 @@
 -- Lists of which the first elements are all the same.
-use Rattle.std.proofs.Common.{◌≡◌, ℕ, ◌+◌, ◌*◌, ◌<◌, ◌≤◌, List, length, get_or, drop, set, replicate, sym, ap, ◌∙◌, ⊎_elim, arith}
+use Rattle.std.proofs.Common.{◌≡◌, ℕ, ◌+◌, ◌*◌, ◌<◌, ◌≤◌, List, ◌++◌, length, get_or, set, replicate, sym, ap, ◌∙◌, ⊎_elim, arith}
 use Rattle.std.proofs.lemmas.Bool.{cases_eq}
-use Rattle.std.proofs.lemmas.List.{get_or-set_same, get_or-set_other, drop-set-lt, same_lists, get_or-replicate, length-replicate}
+use Rattle.std.proofs.lemmas.List.{get_or_append_left, get_or-set_same, get_or-set_other, same_lists, get_or-replicate, length-replicate}
 use Rattle.parts.specs.Equal.{part, Filled}
 use Rattle.parts.proofs.Writes.{inside, length_part, get_d_part}
 
@@ -12,8 +12,8 @@ filled_more v i xs l h k d b = ⊎_elim
     (λ (n : k ≡ i → ⊥). get_or-set_other xs i k v d n ∙ h k d (omega arith))
     (cases_eq k i)
 
-pub filled_past : {X : Type 0} (i n : ℕ) (xs : List X) (v : X) → i < n → drop n (set xs i v) ≡ drop n xs
-filled_past i n xs v b = drop-set-lt n xs i v b
+pub filled_append : {X : Type 0} (v : X) (i n : ℕ) (xs ys : List X) → n ≤ i → i ≤ length xs → Filled v i xs → Filled v n (xs ++ ys)
+filled_append v i n xs ys u l h k d b = get_or_append_left xs ys d k (omega arith) ∙ h k d (omega arith)
 
 -- each part of what is filled
 pub filled_part : {X : Type 0} (w n j : ℕ) (xs : List X) (v : X) → j < n → n * w ≤ length xs → Filled v (n * w) xs → part w j xs ≡ replicate w v
