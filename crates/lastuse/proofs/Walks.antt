@@ -28,7 +28,9 @@ ahead (Some p) = suc p
 -- what a walk finds is what the entries say
 pub look_latest : (es : List Entry) (n x i : ℕ) → Latest es n x i → look es n x ≡ Some (at es i).last
 look_latest es zero x i l = absurd (let a = l.within in omega arith)
-look_latest es (suc n) x i l = let shorter : i < n → Latest es n x i = λ b. record { within = b; here = l.here; newer = λ k a b. l.newer k a (omega arith) } in grind (arith, nat_tests, look_latest es n x i)
+look_latest es (suc n) x i l =
+    let shorter : i < n → Latest es n x i = λ b. record { within = b; here = l.here; newer = λ k a b. l.newer k a (omega arith) } in
+    grind (arith, nat_tests, look_latest es n x i)
 
 pub look_absent : (es : List Entry) (n x : ℕ) → Absent es n x → look es n x ≡ None
 look_absent es zero x h = refl
@@ -50,7 +52,9 @@ look_front es n x r =
 look_set : (es fs : List Entry) (n x t i : ℕ) → Latest es n x i → ((k : ℕ) → k ≢ i → at fs k ≡ at es k) → (at fs i).line.0 ≡ x → (at fs i).last ≡ t
     → (y : ℕ) → look fs n y ≡ update eqb (look es n) x (Some t) y
 look_set es fs zero x t i l o el et y = absurd (let a = l.within in omega arith)
-look_set es fs (suc n) x t i l o el et y = let same = look_same es fs n in let shorter : i < n → Latest es n x i = λ b. record { within = b; here = l.here; newer = λ k a b. l.newer k a (omega arith) } in grind (arith, nat_tests, same, look_set es fs n x t i)
+look_set es fs (suc n) x t i l o el et y =
+    let shorter : i < n → Latest es n x i = λ b. record { within = b; here = l.here; newer = λ k a b. l.newer k a (omega arith) } in
+    grind (arith, nat_tests, look_same es fs n, look_set es fs n x t i)
 
 -- one more entry
 look_push : (es fs : List Entry) (n x t : ℕ) → ((k : ℕ) → k ≢ n → at fs k ≡ at es k) → (at fs n).line.0 ≡ x → (at fs n).last ≡ t
