@@ -10,6 +10,9 @@ ghost use Rattle.histories.specs.Rule.{fits, raise, occupancies, hits};
 use std::alloc::{AllocError, Global};
 use std::io;
 
+/// No trace is longer.
+const LONGEST: usize = 6;
+
 /// For each of the lines 0, 1 and 2, whether it is held.
 type Contents = [bool; 3];
 
@@ -30,9 +33,9 @@ fn holds(held: Contents, line: u8) -> bool {
 
 /// Whether `after` may be held after a touch of `line`, where `before` was held before it.
 fn may_follow(before: Contents, line: u8, after: Contents, ways: u8) -> bool {
-    let small = after.iter().filter(|held| **held).count() <= usize::from(ways);
-    let mut turn = before.iter().zip(&after).enumerate();
-    small && turn.all(|(at, (was, is))| !is || *was || at == usize::from(line))
+    let size = after.iter().filter(|held| **held).count();
+    let mut lines = before.iter().zip(&after).enumerate();
+    size <= usize::from(ways) && lines.all(|(i, (was, is))| !is || *was || i == usize::from(line))
 }
 
 /// The most hits that the touches still to come can have, where `held` is held before them. The touches have the newest first, so the next is the last.
@@ -107,12 +110,9 @@ fn rule(ways: u8, touches: &[u8], gaps: &mut [u8]) -> usize
     }
 }
 
-/// How many traces there are of 1, 2 and up to 6 touches.
-const TRACES: [u16; 6] = [3, 9, 27, 81, 243, 729];
-
 /// The trace of a number in base 3, the newest touch first.
-fn trace(number: u16) -> [u8; 6] {
-    let mut touches = [0; 6];
+fn trace(number: u16) -> [u8; LONGEST] {
+    let mut touches = [0; LONGEST];
     let mut left = number;
     for touch in &mut touches {
         *touch = (left % 3) as u8;
@@ -129,13 +129,13 @@ struct Counts {
 }
 
 fn tabulate(heap: Global, ways: u8, len: usize) -> Result<Counts, AllocError>
-    requires { len ≤ 6 }
+    requires { len ≤ LONGEST }
 {
     let mut digits = String::new(heap);
     let mut agree = true;
     for number in 0..3u16.pow(len as u32) {
         let touches = trace(number);
-        let mut gaps = [0; 6];
+        let mut gaps = [0; LONGEST];
         let most = best(&touches[..len], [false; 3], ways);
         let counted = rule(ways, &touches[..len], &mut gaps[..len]);
         agree = agree && counted == most;
@@ -146,7 +146,7 @@ fn tabulate(heap: Global, ways: u8, len: usize) -> Result<Counts, AllocError>
 
 fn main(rt: HostRuntime) -> io::Result<()> {
     for ways in 1..=3 {
-        for len in 1..=6 {
+        for len in 1..=LONGEST {
             let Counts { digits, agree } = tabulate(rt.alloc(), ways, len)?;
             let said = if agree {
                 "as the rule"
