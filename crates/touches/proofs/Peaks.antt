@@ -1,7 +1,7 @@
 -- The peak and the load of a list of gaps, and gaps that stay low.
 use Rattle.std.proofs.Common.{◌≡◌, ℕ, zero, suc, ◌-◌, ◌<◌, ◌≤◌, max, Bool, true, ◌&&◌, ltb, List, [], ◌∷◌, length, drop, Some, None, sum, Option, sym, refl, ap, ◌∙◌, subst, ⊎_elim, arith}
-use Rattle.std.specs.List.{between, ContainsAt as Has, AllByRecursion}
-use Rattle.std.proofs.ByRecursion.{All-weaker}
+use Rattle.std.specs.List.{between}
+use Rattle.std.proofs.lemmas.List.Elements.{All-nil, All-cons, All-weaker, Contains-append_right}
 use Rattle.std.proofs.lemmas.List.{take_all, length-drop}
 use Rattle.std.proofs.lemmas.List.Sums.{sum_by-cons}
 use Rattle.std.proofs.lemmas.Bool.{ltb-true, and_parts, cases_lt}
@@ -20,14 +20,12 @@ highest_more : (g : ℕ) (gs : List ℕ) → highest (g ∷ gs) ≡ higher (Some
 highest_more g gs = ap (λ (p : Peak). higher p.highest (highest gs)) (peak_ups g 0) ∙ ap (λ n. higher (Some n) (highest gs)) (omega arith)
 
 -- ---- the peak is the highest
-has_later : (g m : ℕ) (gs : List ℕ) → Has gs m → Has (g ∷ gs) m
-has_later g m gs h = (suc h.0, omega (arith, h.1), h.2)
-
 highest_step : (g : ℕ) (gs : List ℕ) (o : Option ℕ) → Highest gs o → Highest (g ∷ gs) (higher (Some g) o)
-highest_step g gs None e = ((0, omega arith, λ d. refl), (omega arith, subst (AllByRecursion (λ n. n ≤ g)) (sym e) tt))
+highest_step g [] None e = ((0, omega arith, refl), All-cons (λ n. n ≤ g) g [] (omega arith) (All-nil _))
+highest_step g (x ∷ gs) None e = cc
 highest_step g gs (Some m) h = ⊎_elim
-    (λ (l : g < m). let e : m ≡ max g m = omega arith in subst (λ n. Highest (g ∷ gs) (Some n)) e (has_later g m gs h.0, (omega arith, h.1)))
-    (λ (l : m ≤ g). let e : g ≡ max g m = omega arith in subst (λ n. Highest (g ∷ gs) (Some n)) e ((0, omega arith, λ d. refl), (omega arith, All-weaker (λ n. n ≤ m) (λ n. n ≤ g) (λ n k. omega arith) gs h.1)))
+    (λ (l : g < m). let e : m ≡ max g m = omega arith in subst (λ n. Highest (g ∷ gs) (Some n)) e (Contains-append_right (g ∷ []) gs m h.0, All-cons (λ n. n ≤ m) g gs (omega arith) h.1))
+    (λ (l : m ≤ g). let e : g ≡ max g m = omega arith in subst (λ n. Highest (g ∷ gs) (Some n)) e ((0, omega arith, refl), All-cons (λ n. n ≤ g) g gs (omega arith) (All-weaker (λ n. n ≤ m) (λ n. n ≤ g) (λ n k. omega arith) gs h.1)))
     (cases_lt g m)
 
 pub peaks : Peaks
