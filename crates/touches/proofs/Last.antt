@@ -1,6 +1,7 @@
 -- The latest turn of a line, and the rule by it.
-use Rattle.std.proofs.Common.{◌≡◌, ℕ, suc, ◌-◌, ◌<◌, Bool, true, false, cond, ◌&&◌, eqb, ltb, ◌≢◌, ◌⊎◌, List, [], ◌∷◌, ◌++◌, map, length, take, drop, IfSome, Some, None, Option, sym, refl, ◌∙◌, subst, inl, inr, ⊎_elim, arith, MatchOption}
+use Rattle.std.proofs.Common.{◌≡◌, ℕ, suc, ◌-◌, ◌<◌, Bool, true, false, cond, ◌&&◌, eqb, ◌≢◌, ◌⊎◌, List, [], ◌∷◌, ◌++◌, map, length, take, drop, IfSome, Some, None, Option, sym, refl, ◌∙◌, subst, inl, inr, ⊎_elim, arith, MatchOption}
 use Rattle.std.proofs.lemmas.Bool.{cases_eq, eqb-true, eqb-false, eq-eqb, ne_eqb, cond-false}
+use Rattle.std.proofs.lemmas.Bool.Decides.{nat_tests}
 use Rattle.histories.specs.Rule.{fits, raise, at_turn}
 use Rattle.histories.proofs.Index.{at_newest, at_older, Where, where_is, last_older}
 use Rattle.touches.specs.Turns.{latest_turn, Earlier, below, TurnsFound}
@@ -50,10 +51,8 @@ and_false false = refl
 
 by_older : (W x t : ℕ) (ts : List ℕ) (o : ℕ) (os : List ℕ) (l : Option ℕ) → x ≢ t → Before ts l → ByLast W x ts os l → ByLast W x (t ∷ ts) (o ∷ os) l
 unfolding fits raise
-by_older W x t ts o os None ne s r = rw (ne_eqb x t ne, r) (and_false (ltb o W))
-by_older W x t ts o os (Some p) ne s r =
-    let e : length (t ∷ ts) - p ≡ suc (length ts - p) = omega arith in
-    (rw (e, ne_eqb x t ne, r.0), rw (e, ne_eqb x t ne, r.1))
+by_older W x t ts o os None ne s r = grind (arith, nat_tests)
+by_older W x t ts o os (Some p) ne s r = let e : length (t ∷ ts) - p ≡ suc (length ts - p) = omega arith in grind (arith, nat_tests)
 
 pub by_last : (W x : ℕ) (ts os : List ℕ) → length os ≡ length ts → ByLast W x ts os (latest_turn ts x)
 unfolding fits raise
