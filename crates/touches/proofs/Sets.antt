@@ -34,11 +34,8 @@ hits_le W [] = omega arith
 hits_le W (t ∷ ts) = omega (arith, tally_le (hit W t ts), hits_le W ts)
 
 pub hits_push : (W s : ℕ) (before took : List ℕ) (x : ℕ) → hits_of W s before (took ++ x ∷ []) ≡ hits_of W s before took + tally (verdict W s (before ++ took) x)
-hits_push W s before [] x = let e = ap (λ t. tally (verdict W s t x)) (append-nil before) in omega arith
-hits_push W s before (y ∷ took) x =
-    let rest = hits_push W s (before ++ y ∷ []) took x in
-    let e = ap (λ t. tally (verdict W s t x)) (append_assoc before (y ∷ []) took) in
-    omega arith
+hits_push W s before [] x = grind (arith, append-nil)
+hits_push W s before (y ∷ took) x = grind (arith, append_assoc, hits_push W s (before ++ y ∷ []) took x)
 
 -- ---- how many touches the sets have together
 
