@@ -1,7 +1,7 @@
 -- How many lines of a list pass a test.
 use Rattle.std.proofs.Common.{◌≡◌, ℕ, ◌+◌, ◌≤◌, Bool, true, false, not, ◌&&◌, eqb, List, [], ◌∷◌, length, sym, refl, ◌∙◌, arith}
 use Rattle.std.proofs.lemmas.Bool.Decides.{nat_tests}
-use Rattle.std.proofs.lemmas.Bool.{and_parts, or_parts, or_right}
+use Rattle.std.proofs.lemmas.Bool.{and_parts, or_right}
 use Rattle.histories.specs.Rule.{tally, held}
 use Rattle.histories.specs.Histories.{Distinct}
 
@@ -50,11 +50,11 @@ count_all (y ∷ ys) = omega (arith, count_all ys)
 
 pub held_count : (x : ℕ) (C : List ℕ) → tally (held x C) ≤ count (eqb x) C
 held_count x [] = omega arith
-held_count x (y ∷ ys) = let k = held_count x ys in grind arith
+held_count x (y ∷ ys) = grind (arith, held_count x ys)
 
 gone_count : (x : ℕ) (C : List ℕ) → held x C ≡ false → count (eqb x) C ≡ 0
 gone_count x [] e = refl
-gone_count x (y ∷ ys) e = let k = gone_count x ys (or_parts (eqb x y) (held x ys) e).1 in grind arith
+gone_count x (y ∷ ys) e = grind (arith, gone_count x ys)
 
 -- of distinct lines that are all held in C, there are no more than in C
 pub within : (r : ℕ → Bool) (C D : List ℕ) → Distinct D → ((y : ℕ) → held y D ≡ true → r y ≡ true → held y C ≡ true) → count r D ≤ count r C

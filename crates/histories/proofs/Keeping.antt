@@ -1,6 +1,7 @@
 -- The schedule by index: a line is held exactly between a touch and its next, where that next one is a hit.
-use Rattle.std.proofs.Common.{◌≡◌, ℕ, suc, ◌<◌, ◌≤◌, Bool, true, false, cond, ◌||◌, eqb, leb, ◌⊎◌, ◌↔◌, List, [], ◌∷◌, ◌++◌, length, get_or, drop, sym, refl, ap, ◌∙◌, subst, inl, inr, arith, length-append}
-use Rattle.std.proofs.lemmas.Bool.{cases_order, eqb-true, eqb-false, eq-eqb, le-leb, lt-leb, or_cases, or_left, or_right, leb-true, leb-false, both_ways, false≢true}
+use Rattle.std.proofs.Common.{◌≡◌, ℕ, ◌<◌, ◌≤◌, Bool, true, false, cond, ◌||◌, eqb, leb, ◌⊎◌, ◌↔◌, List, [], ◌∷◌, ◌++◌, length, get_or, drop, sym, refl, ap, ◌∙◌, subst, inl, inr, arith, length-append}
+use Rattle.std.proofs.lemmas.Bool.{eqb-true, eq-eqb, or_cases, or_left, or_right, leb-true, leb-false, both_ways, false≢true}
+use Rattle.std.proofs.lemmas.Bool.Decides.{nat_tests}
 use Rattle.histories.specs.Rule.{held, occupancies, hit, LastTouch}
 use Rattle.histories.specs.Histories.{Legal}
 use Rattle.histories.specs.Schedule.{put, schedule, Kept, KeptForHits}
@@ -11,17 +12,13 @@ length_put : (x : ℕ) (ts : List ℕ) (cs : List (List ℕ)) → length (put x 
 unfolding put
 length_put x [] cs = refl
 length_put x (t ∷ ts) [] = refl
-length_put x (t ∷ ts) (c ∷ cs) = go (eqb x t) (length_put x ts cs)
-  where
-    go : (b : Bool) → length (put x ts cs) ≡ length cs → suc (length (cond b cs (put x ts cs))) ≡ suc (length cs)
-    go true e = refl
-    go false e = ap suc e
+length_put x (t ∷ ts) (c ∷ cs) = grind (arith, length_put x ts cs)
 
 length_legal : (W : ℕ) (ts : List ℕ) (cs : List (List ℕ)) → Legal W ts cs → length cs ≡ length ts
 length_legal W [] [] l = refl
 length_legal W [] (c ∷ cs) l = absurd l
 length_legal W (t ∷ ts) [] l = absurd l
-length_legal W (t ∷ ts) (c ∷ cs) l = ap suc (length_legal W ts cs l.1)
+length_legal W (t ∷ ts) (c ∷ cs) l = grind (arith, length_legal W ts cs)
 
 length_schedule : (W : ℕ) (ts : List ℕ) → length (schedule W ts) ≡ length ts
 length_schedule W ts = length_legal W ts (schedule W ts) (sound W ts).legal
@@ -31,30 +28,13 @@ put_at : (x : ℕ) (ts : List ℕ) (cs : List (List ℕ)) → length cs ≡ leng
 unfolding put
 put_at x [] cs e p l i h = absurd (omega (arith, l.past))
 put_at x (t ∷ ts) [] e p l i h = absurd (omega arith)
-put_at x (t ∷ ts) (c ∷ cs) e p l i h = go (eqb x t) refl (put_at x ts cs (omega arith) p)
-  where
-    front : (ds : List (List ℕ)) → length ds ≡ length cs → (i < length cs → at [] ds i ≡ cond (leb p i) (x ∷ at [] cs i) (at [] cs i)) → at [] ((x ∷ c) ∷ ds) i ≡ cond (leb p i) (x ∷ at [] (c ∷ cs) i) (at [] (c ∷ cs) i)
-    front ds n rec = one (where_is [] (x ∷ c) ds i (omega arith)) (where_is [] c cs i h)
-      where
-        one : Where [] (x ∷ c) ds i → Where [] c cs i → at [] ((x ∷ c) ∷ ds) i ≡ cond (leb p i) (x ∷ at [] (c ∷ cs) i) (at [] (c ∷ cs) i)
-        one (inl a) (inl b) = rw (a.1, b.1, le-leb p i (omega (arith, l.past)))
-        one (inl a) (inr b) = absurd (omega arith)
-        one (inr a) (inl b) = absurd (omega arith)
-        one (inr a) (inr b) = rw (a.1, b.1) (rec b.0)
-
-    go : (b : Bool) → eqb x t ≡ b → (LastTouch ts x p → (i : ℕ) → i < length cs → at [] (put x ts cs) i ≡ cond (leb p i) (x ∷ at [] cs i) (at [] cs i))
-        → at [] ((x ∷ c) ∷ cond b cs (put x ts cs)) i ≡ cond (leb p i) (x ∷ at [] (c ∷ cs) i) (at [] (c ∷ cs) i)
-    go true k rec = front cs refl (λ a. rw (lt-leb p i (omega (arith, last_newest x t ts p (eqb-true x t k) l))))
-    go false k rec = front (put x ts cs) (length_put x ts cs) (rec (last_older x t ts p (eqb-false x t k) l) i)
+put_at x (t ∷ ts) (c ∷ cs) e p l i h =
+    let past = l.past in
+    grind (arith, nat_tests, last_newest x t ts p, last_older x t ts p, put_at x ts cs (omega arith) p, length_put x ts cs, where_is [] c cs i, where_is [] (x ∷ c) cs i, where_is [] (x ∷ c) (put x ts cs) i)
 
 -- a line has one last touch
 last_one : (ts : List ℕ) (x p q : ℕ) → LastTouch ts x p → LastTouch ts x q → p ≡ q
-last_one ts x p q l m = go (cases_order p q)
-  where
-    go : (p ≡ q) ⊎ ((p < q) ⊎ (q < p)) → p ≡ q
-    go (inl e) = e
-    go (inr (inl h)) = absurd (l.since q h m.past m.here)
-    go (inr (inr h)) = absurd (m.since p h l.past l.here)
+last_one ts x p q l m = let here = l.here in let there = m.here in grind (arith, l.since q, m.since p, l.past, m.past)
 
 -- ---- one more touch
 

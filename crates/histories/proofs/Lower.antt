@@ -2,7 +2,7 @@
 --
 -- One induction over the touches. A hit of x puts x into each gap since its last touch. Those gaps have room, since their sizes are
 -- the occupancies that the rule has tested; x stood in none of them; and no earlier verdict of the history changes.
-use Rattle.std.proofs.Common.{◌≡◌, ℕ, suc, Bool, true, false, cond, ◌||◌, eqb, ltb, List, [], ◌∷◌, map, length, sum, sym, refl, ap, arith}
+use Rattle.std.proofs.Common.{◌≡◌, ℕ, Bool, true, false, cond, ◌||◌, eqb, ltb, List, [], ◌∷◌, map, length, sum, sym, refl, ap, arith}
 use Rattle.std.proofs.lemmas.Bool.Decides.{nat_tests}
 use Rattle.std.proofs.lemmas.Bool.{ltb-true, eq-eqb, and_parts, or_left, or_right, false≢true}
 use Rattle.histories.specs.Rule.{trues, held, fits, raise, occupancies, verdicts, hits}
@@ -29,11 +29,7 @@ absent_put : (x y : ℕ) (ts : List ℕ) (cs : List (List ℕ)) → eqb y x ≡ 
 unfolding put
 absent_put x y [] cs e a = tt
 absent_put x y (t ∷ ts) [] e a = tt
-absent_put x y (t ∷ ts) (c ∷ cs) e a = (rw e a.0, λ n. go (eqb x t) n (absent_put x y ts cs e))
-  where
-    go : (b : Bool) → eqb y t ≡ false → (Absent y ts cs → Absent y ts (put x ts cs)) → Absent y ts (cond b cs (put x ts cs))
-    go true n rec = a.1 n
-    go false n rec = rec (a.1 n)
+absent_put x y (t ∷ ts) (c ∷ cs) e a = grind (arith, nat_tests, absent_put x y ts cs)
 
 pub latest_put : (x y : ℕ) (ts : List ℕ) (cs : List (List ℕ)) → eqb y x ≡ false → held y (latest (put x ts cs)) ≡ held y (latest cs)
 unfolding put
@@ -45,18 +41,14 @@ latest_more : (x y : ℕ) (ts : List ℕ) (cs : List (List ℕ)) → held y (lat
 unfolding put
 latest_more x y [] cs e = e
 latest_more x y (t ∷ ts) [] e = e
-latest_more x y (t ∷ ts) (c ∷ cs) e = or_right (eqb y x) (held y c) e
+latest_more x y (t ∷ ts) (c ∷ cs) e = grind arith
 
 -- the sizes rise as the occupancies do
 put_length : (x : ℕ) (ts : List ℕ) (cs : List (List ℕ)) → raise x ts (map length cs) ≡ map length (put x ts cs)
 unfolding put raise
 put_length x [] cs = refl
 put_length x (t ∷ ts) [] = refl
-put_length x (t ∷ ts) (c ∷ cs) = go (eqb x t) (put_length x ts cs)
-  where
-    go : (b : Bool) → raise x ts (map length cs) ≡ map length (put x ts cs) → suc (length c) ∷ cond b (map length cs) (raise x ts (map length cs)) ≡ suc (length c) ∷ map length (cond b cs (put x ts cs))
-    go true e = refl
-    go false e = ap (λ (r : List ℕ). suc (length c) ∷ r) e
+put_length x (t ∷ ts) (c ∷ cs) = grind (arith, put_length x ts cs)
 
 -- the history after a hit of x has put it in
 record Added (W x : ℕ) (ts : List ℕ) (cs : List (List ℕ)) : Type 0 where

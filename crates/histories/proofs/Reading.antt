@@ -2,9 +2,9 @@
 --
 -- One induction over the touches: a hit of x sets the hold of its last touch and puts x into each gap since. Read forward, that hold
 -- puts x in at its last touch, and no row since then takes it out.
-use Rattle.std.proofs.Common.{◌≡◌, ℕ, zero, suc, Bool, true, false, cond, not, ◌&&◌, ◌||◌, eqb, ltb, List, [], ◌∷◌, map, length, get_or, sym, refl, ap, ◌∙◌, ap₂, arith}
+use Rattle.std.proofs.Common.{◌≡◌, ℕ, zero, suc, Bool, true, false, cond, not, ◌&&◌, ◌||◌, eqb, List, [], ◌∷◌, map, length, get_or, sym, refl, ap, ◌∙◌, ap₂, arith}
 use Rattle.std.proofs.lemmas.Bool.Decides.{nat_tests}
-use Rattle.std.proofs.lemmas.Bool.{eqb-true, eq-eqb, and_parts, or_left, false≢true}
+use Rattle.std.proofs.lemmas.Bool.{eqb-true, eq-eqb, or_left, false≢true}
 use Rattle.histories.specs.Rule.{held, fits, occupancies, hit, verdicts}
 use Rattle.histories.specs.Histories.{latest, Distinct, LegalTurn, Legal, turn_hits}
 use Rattle.histories.specs.Schedule.{put, schedule, mark, holds, without, resident, rows_with, rows, HeldByRows}
@@ -19,11 +19,7 @@ read_row h x c = cond h (x ∷ without x c) (without x c)
 
 held_without : (x y : ℕ) (c : List ℕ) → held y (without x c) ≡ (not (eqb y x) && held y c)
 held_without x y [] = grind arith
-held_without x y (z ∷ zs) = go (eqb x z) refl (held_without x y zs)
-  where
-    go : (b : Bool) → eqb x z ≡ b → held y (without x zs) ≡ (not (eqb y x) && held y zs) → held y (cond b (without x zs) (z ∷ without x zs)) ≡ (not (eqb y x) && (eqb y z || held y zs))
-    go true e h = grind (arith, nat_tests)
-    go false e h = grind (arith, nat_tests)
+held_without x y (z ∷ zs) = grind (arith, nat_tests, held_without x y zs)
 
 pub held_read : (h : Bool) (x y : ℕ) (c : List ℕ) → held y (read_row h x c) ≡ cond (eqb y x) h (held y c)
 held_read true x y c = let k = held_without x y c in grind (arith, nat_tests)
@@ -31,11 +27,7 @@ held_read false x y c = let k = held_without x y c in grind (arith, nat_tests)
 
 distinct_without : (x : ℕ) (c : List ℕ) → Distinct c → Distinct (without x c)
 distinct_without x [] d = tt
-distinct_without x (z ∷ zs) d = go (eqb x z) (distinct_without x zs d.1)
-  where
-    go : (b : Bool) → Distinct (without x zs) → Distinct (cond b (without x zs) (z ∷ without x zs))
-    go true k = k
-    go false k = (let m = held_without x z zs in let n = d.0 in grind arith, k)
+distinct_without x (z ∷ zs) d = grind (arith, nat_tests, distinct_without x zs, held_without x z zs)
 
 distinct_read : (h : Bool) (x : ℕ) (c : List ℕ) → Distinct c → Distinct (read_row h x c)
 distinct_read true x c d = (let m = held_without x x c in grind (arith, nat_tests), distinct_without x c d)
@@ -75,7 +67,7 @@ same_turns [] cs ds s = refl
 same_turns (t ∷ ts) [] [] s = refl
 same_turns (t ∷ ts) [] (d ∷ ds) s = absurd s
 same_turns (t ∷ ts) (c ∷ cs) [] s = absurd s
-same_turns (t ∷ ts) (c ∷ cs) (d ∷ ds) s = ap₂ ◌∷◌ (same_latest cs ds s.1 t) (same_turns ts cs ds s.1)
+same_turns (t ∷ ts) (c ∷ cs) (d ∷ ds) s = grind (arith, same_latest cs ds s.1 t, same_turns ts cs ds s.1)
 
 same_sizes : (W : ℕ) (ts : List ℕ) (cs ds : List (List ℕ)) → Legal W ts cs → Legal W ts ds → Same cs ds → map length cs ≡ map length ds
 same_sizes W ts [] [] k l s = refl
@@ -137,7 +129,7 @@ fits_held : (W x : ℕ) (ts os : List ℕ) → fits W x ts os ≡ true → held 
 unfolding fits
 fits_held W x [] os f = f
 fits_held W x (t ∷ ts) [] f = absurd (false≢true f)
-fits_held W x (t ∷ ts) (o ∷ os) f = let k = fits_held W x ts os in let m = (and_parts (ltb o W) (eqb x t || fits W x ts os) f).1 in grind arith
+fits_held W x (t ∷ ts) (o ∷ os) f = grind (arith, fits_held W x ts os)
 
 -- the holds that the rule gives, read forward, and the schedule
 same : (W : ℕ) (ts : List ℕ) → Same (read W ts (holds W ts)) (schedule W ts)
@@ -187,20 +179,12 @@ length_mark : (x : ℕ) (ts : List ℕ) (hs : List Bool) → length (mark x ts h
 unfolding mark
 length_mark x [] hs = refl
 length_mark x (t ∷ ts) [] = refl
-length_mark x (t ∷ ts) (h ∷ hs) = go (eqb x t) (length_mark x ts hs)
-  where
-    go : (b : Bool) → length (mark x ts hs) ≡ length hs → length (cond b (true ∷ hs) (h ∷ mark x ts hs)) ≡ suc (length hs)
-    go true e = refl
-    go false e = ap suc e
+length_mark x (t ∷ ts) (h ∷ hs) = grind (arith, length_mark x ts hs)
 
 pub length_holds : (W : ℕ) (ts : List ℕ) → length (holds W ts) ≡ length ts
 unfolding holds
 length_holds W [] = refl
-length_holds W (t ∷ ts) = go (hit W t ts) (length_holds W ts)
-  where
-    go : (b : Bool) → length (holds W ts) ≡ length ts → suc (length (cond b (mark t ts (holds W ts)) (holds W ts))) ≡ suc (length ts)
-    go true e = ap suc (length_mark t ts (holds W ts) ∙ e)
-    go false e = ap suc e
+length_holds W (t ∷ ts) = grind (arith, length_mark t ts (holds W ts), length_holds W ts)
 
 lines : (W : ℕ) (ts : List ℕ) (hs : List Bool) → length hs ≡ length ts → map (λ r. r.line) (rows_with W ts hs) ≡ ts
 unfolding rows_with
