@@ -1,8 +1,8 @@
 -- The rule by index: turns, the last touch, and the gaps from there on.
-use Rattle.std.proofs.Common.{◌≡◌, ℕ, suc, ◌+◌, ◌<◌, ◌≤◌, Bool, true, false, cond, ◌||◌, eqb, ltb, leb, ◌⊎◌, ◌↔◌, List, [], ◌∷◌, reverse, length, get_or, sym, refl, ap, ◌∙◌, inl, inr, arith}
+use Rattle.std.proofs.Common.{◌≡◌, ℕ, suc, ◌+◌, ◌<◌, ◌≤◌, Bool, true, false, cond, ◌||◌, eqb, ltb, leb, ◌⊎◌, ◌↔◌, List, [], ◌∷◌, reverse, length, get_or, sym, refl, ap, ◌∙◌, arith}
 use mathlib.Core.List.{reverse-cons}
 use Rattle.std.proofs.lemmas.List.{get_or_append_left, get_or_push, length-reverse}
-use Rattle.std.proofs.lemmas.Bool.{eqb-true, eqb-false, and_parts, false≢true}
+use Rattle.std.proofs.lemmas.Bool.{eqb-true, and_parts, false≢true}
 use Rattle.std.proofs.lemmas.Bool.Decides.{nat_tests}
 use Rattle.histories.specs.Rule.{tally, fits, raise, occupancies, hit, at_turn, LastTouch, RuleByIndex}
 
@@ -44,11 +44,10 @@ last_touch W x (t ∷ ts) (o ∷ os) f = go (eqb x t) refl (and_parts (ltb o W) 
   where
     go : (b : Bool) → eqb x t ≡ b → (b || fits W x ts os) ≡ true → (fits W x ts os ≡ true → (p : ℕ) × LastTouch ts x p) → (p : ℕ) × LastTouch (t ∷ ts) x p
     go true e k rec = (length ts, record { past = omega arith; here = at_newest 0 t ts ∙ sym (eqb-true x t e); since = λ i a b. absurd (omega arith) })
-    go false e k rec = let m = rec k in (m.0, record { past = omega (arith, m.1.past); here = at_older 0 t ts m.0 m.1.past ∙ m.1.here; since = λ i a b. since m.0 m.1 i a (where_is 0 t ts i b) })
-      where
-        since : (p : ℕ) → LastTouch ts x p → (i : ℕ) → p < i → Where 0 t ts i → at_turn (t ∷ ts) i ≡ x → ⊥
-        since p l i a (inl k) h = eqb-false x t e (sym h ∙ k.1)
-        since p l i a (inr k) h = l.since i a k.0 (sym k.1 ∙ h)
+    go false e k rec =
+        let m = rec k in
+        let l = m.1 in
+        (m.0, record { past = omega (arith, l.past); here = at_older 0 t ts m.0 l.past ∙ l.here; since = λ i a b h. grind (arith, nat_tests, where_is 0 t ts i b, l.since i) })
 
 -- ---- the test and the raise
 

@@ -142,11 +142,7 @@ same W (t ∷ ts) = go (hit W t ts) refl (same W ts)
 
     -- nothing but t was held before, and t is taken out
     emptied : (cs ds : List (List ℕ)) → Same cs ds → ((y : ℕ) → eqb y t ≡ false → held y (latest ds) ≡ false) → (y : ℕ) → held y (read_row false t (latest cs)) ≡ false
-    emptied cs ds k n y = held_read false t y (latest cs) ∙ two (eqb y t) refl
-      where
-        two : (b : Bool) → eqb y t ≡ b → cond b false (held y (latest cs)) ≡ false
-        two true e = refl
-        two false e = same_latest cs ds k y ∙ n y e
+    emptied cs ds k n y = grind (arith, nat_tests, held_read false t y (latest cs), same_latest cs ds k y, n y)
 
     go : (b : Bool) → hit W t ts ≡ b → Same (read W ts (holds W ts)) s
         → Same (read W (t ∷ ts) (false ∷ cond b (mark t ts (holds W ts)) (holds W ts))) ([] ∷ cond b (put t ts s) s)

@@ -24,19 +24,16 @@ Invariant W h H p C (t ∷ ts) (o ∷ os) = (o ≤ W) × (o + h + count p C ≤ 
 keep : (W h h' H H' m : ℕ) (p q : ℕ → Bool) (C ts os : List ℕ) → ((y : ℕ) → tally (q y) ≤ tally (p y)) → count q C ≤ m → (h' + H ≤ h + H') ⊎ (h' + m ≤ H') → Invariant W h H p C ts os → Invariant W h' H' q C ts os
 keep W h h' H H' m p q C [] os s n k f = omega (arith, count_mono q p C s)
 keep W h h' H H' m p q C (t ∷ ts) [] s n k f = f
-keep W h h' H H' m p q C (t ∷ ts) (o ∷ os) s n k f = (f.0, omega (arith, count_mono q p C s), keep W h h' H H' m (less p t) (less q t) C ts os one (omega (arith, count_mono (less q t) q C two)) k f.2)
-  where
-    one : (y : ℕ) → tally (less q t y) ≤ tally (less p t y)
-    one y = let k = s y in grind arith
-
-    two : (y : ℕ) → tally (less q t y) ≤ tally (q y)
-    two y = grind arith
+keep W h h' H H' m p q C (t ∷ ts) (o ∷ os) s n k f =
+    let one : (y : ℕ) → tally (less q t y) ≤ tally (less p t y) = λ y. grind (arith, s y) in
+    let two : (y : ℕ) → tally (less q t y) ≤ tally (q y) = λ y. grind arith in
+    grind (arith, count_mono q p C s, count_mono (less q t) q C two, keep W h h' H H' m (less p t) (less q t) C ts os one)
 
 -- the same with D, what is held after the turn, in place of C
 other : (W h H x : ℕ) (p : ℕ → Bool) (C D ts os : List ℕ) → ((r : ℕ → Bool) → r x ≡ false → count r D ≤ count r C) → p x ≡ false → Invariant W h H p C ts os → Invariant W h H p D ts os
 other W h H x p C D [] os s e f = omega (arith, s p e)
 other W h H x p C D (t ∷ ts) [] s e f = f
-other W h H x p C D (t ∷ ts) (o ∷ os) s e f = (f.0, omega (arith, s p e), other W h H x (less p t) C D ts os s (rw e) f.2)
+other W h H x p C D (t ∷ ts) (o ∷ os) s e f = grind (arith, s p e, other W h H x (less p t) C D ts os s)
 
 -- after a touch with the rule's verdict b
 Stepped : ℕ → ℕ → ℕ → (ℕ → Bool) → List ℕ → List ℕ → List ℕ → List ℕ → Bool → Type 0
