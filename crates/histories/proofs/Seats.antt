@@ -2,10 +2,10 @@
 --
 -- A missed line that is kept finds a way, since fewer than W lines are held before it, and takes none that is taken.
 -- A hit's line is held already, and its row names the way that it sits in.
-use Rattle.std.proofs.Common.{◌≡◌, ℕ, zero, suc, ◌+◌, ◌<◌, ◌≤◌, Bool, true, false, cond, eqb, ltb, ◌⊎◌, List, [], ◌∷◌, map, length, get_or, drop, sym, refl, ap, ◌∙◌, subst, inl, inr, arith}
+use Rattle.std.proofs.Common.{◌≡◌, ℕ, zero, suc, ◌+◌, ◌<◌, ◌≤◌, Bool, true, false, cond, eqb, ltb, ◌⊎◌, List, [], ◌∷◌, map, length, get_or, drop, sym, refl, ap, ◌∙◌, subst, inr, arith}
 use Rattle.std.proofs.lemmas.List.{length-map}
 use Rattle.std.proofs.lemmas.Bool.Decides.{nat_tests}
-use Rattle.std.proofs.lemmas.Bool.{eq-eqb, both_ways, false≢true}
+use Rattle.std.proofs.lemmas.Bool.{both_ways, false≢true}
 use Rattle.histories.specs.Rule.{held, hit, verdicts}
 use Rattle.histories.specs.Histories.{latest, Distinct, Legal, turn_hits}
 use Rattle.histories.specs.Schedule.{Row, without, resident, seat, lowest, way, holds, rows_with, rows, SeatedTurn, Seated, WaysFit}
@@ -113,34 +113,20 @@ seated_turn W t v h rs e n s = record { below = below; alone = alone; keeps = ke
     at : h ≡ true → Placed W t rs w
     at k = subst (λ b. Placed W t rs (way W v b t rs)) (sym k) (placed W t v rs e (subst (λ b. length (read_row b t L) ≤ W) k n) s)
 
-    here : (y : ℕ) → y ≡ t → cond (eqb y t) w (seat y rs) ≡ w
-    here y k = rw (eq-eqb y t k)
-
-    other : (y : ℕ) → eqb y t ≡ false → cond (eqb y t) w (seat y rs) ≡ seat y rs
-    other y k = rw k
-
     below : (y : ℕ) → held y (latest (resident (r ∷ rs))) ≡ true → cond (eqb y t) w (seat y rs) < W
-    below y c = go (kept W t v h rs y c)
-      where
-        go : ((y ≡ t) × (h ≡ true)) ⊎ ((eqb y t ≡ false) × (held y L ≡ true)) → cond (eqb y t) w (seat y rs) < W
-        go (inl k) = omega (arith, here y k.0, (at k.1).inside)
-        go (inr k) = omega (arith, other y k.0, s.below y k.1)
+    below y c =
+        let inside : h ≡ true → w < W = λ k. (at k).inside in
+        grind (arith, nat_tests, kept W t v h rs y c, inside, s.below y)
 
     alone : (y z : ℕ) → held y (latest (resident (r ∷ rs))) ≡ true → held z (latest (resident (r ∷ rs))) ≡ true → cond (eqb y t) w (seat y rs) ≡ cond (eqb z t) w (seat z rs) → y ≡ z
-    alone y z c d q = go (kept W t v h rs y c) (kept W t v h rs z d)
-      where
-        go : ((y ≡ t) × (h ≡ true)) ⊎ ((eqb y t ≡ false) × (held y L ≡ true)) → ((z ≡ t) × (h ≡ true)) ⊎ ((eqb z t ≡ false) × (held z L ≡ true)) → y ≡ z
-        go (inl k) (inl m) = k.0 ∙ sym m.0
-        go (inl k) (inr m) = k.0 ∙ sym ((at k.1).free z m.1 (sym (other z m.0) ∙ sym q ∙ here y k.0))
-        go (inr k) (inl m) = (at m.1).free y k.1 (sym (other y k.0) ∙ q ∙ here z m.0) ∙ sym m.0
-        go (inr k) (inr m) = s.alone y z k.1 m.1 (sym (other y k.0) ∙ q ∙ other z m.0)
+    alone y z c d q =
+        let free : h ≡ true → (z : ℕ) → held z L ≡ true → seat z rs ≡ w → z ≡ t = λ k. (at k).free in
+        grind (arith, nat_tests, kept W t v h rs y c, kept W t v h rs z d, free, s.alone y z)
 
     keeps : (y : ℕ) → held y L ≡ true → held y (latest (resident (r ∷ rs))) ≡ true → cond (eqb y t) w (seat y rs) ≡ seat y rs
-    keeps y b c = go (kept W t v h rs y c)
-      where
-        go : ((y ≡ t) × (h ≡ true)) ⊎ ((eqb y t ≡ false) × (held y L ≡ true)) → cond (eqb y t) w (seat y rs) ≡ seat y rs
-        go (inl k) = here y k.0 ∙ (at k.1).stays (subst (λ x. held x L ≡ true) k.0 b) ∙ ap (λ x. seat x rs) (sym k.0)
-        go (inr k) = other y k.0
+    keeps y b c =
+        let stays : h ≡ true → held t L ≡ true → w ≡ seat t rs = λ k. (at k).stays in
+        grind (arith, nat_tests, kept W t v h rs y c, stays)
 
 -- ---- every turn
 
