@@ -1,6 +1,6 @@
 -- The schedule by index: a line is held exactly between a touch and its next, where that next one is a hit.
 use Rattle.std.proofs.Common.{◌≡◌, ℕ, ◌<◌, ◌≤◌, Bool, true, false, cond, ◌||◌, eqb, leb, ◌⊎◌, ◌↔◌, List, [], ◌∷◌, ◌++◌, length, get_or, drop, sym, refl, ap, ◌∙◌, subst, inl, inr, arith, length-append}
-use Rattle.std.proofs.lemmas.Bool.{eqb-true, eq-eqb, or_cases, or_left, or_right, leb-true, leb-false, both_ways, false≢true}
+use Rattle.std.proofs.lemmas.Bool.{leb-true, both_ways, false≢true}
 use Rattle.std.proofs.lemmas.Bool.Decides.{nat_tests}
 use Rattle.histories.specs.Rule.{held, occupancies, hit, LastTouch}
 use Rattle.histories.specs.Histories.{Legal}
@@ -76,38 +76,13 @@ new_at W t ts i y h false e = (λ k. inr k, back)
     back : ((y ≡ t) × UntilNow W t ts i) ⊎ (held y (at [] (schedule W ts) i) ≡ true) → held y (at [] (schedule W ts) i) ≡ true
     back (inl k) = absurd (both_ways (hit W t ts) e k.1.0)
     back (inr k) = k
-new_at W t ts i y h true e = go (last_touch W t ts (occupancies W ts) e)
-  where
-    s : List (List ℕ)
-    s = schedule W ts
-
-    go : (p : ℕ) × LastTouch ts t p → (held y (at [] (put t ts s) i) ≡ true) ↔ (((y ≡ t) × UntilNow W t ts i) ⊎ (held y (at [] s i) ≡ true))
-    go (p, l) = two (leb p i) refl
-      where
-        is : at [] (put t ts s) i ≡ cond (leb p i) (t ∷ at [] s i) (at [] s i)
-        is = put_at t ts s (length_schedule W ts) p l i (omega (arith, length_schedule W ts))
-
-        two : (b : Bool) → leb p i ≡ b → (held y (at [] (put t ts s) i) ≡ true) ↔ (((y ≡ t) × UntilNow W t ts i) ⊎ (held y (at [] s i) ≡ true))
-        two true k = (λ q. one (or_cases (eqb y t) (held y (at [] s i)) (sym so ∙ q)), back)
-          where
-            so : held y (at [] (put t ts s) i) ≡ (eqb y t || held y (at [] s i))
-            so = ap (held y) (is ∙ ap (λ b. cond b (t ∷ at [] s i) (at [] s i)) k)
-
-            one : (eqb y t ≡ true) ⊎ (held y (at [] s i) ≡ true) → ((y ≡ t) × UntilNow W t ts i) ⊎ (held y (at [] s i) ≡ true)
-            one (inl q) = inl (eqb-true y t q, (e, h, (p, l, leb-true p i k)))
-            one (inr q) = inr q
-
-            back : ((y ≡ t) × UntilNow W t ts i) ⊎ (held y (at [] s i) ≡ true) → held y (at [] (put t ts s) i) ≡ true
-            back (inl q) = so ∙ or_left (eqb y t) (held y (at [] s i)) (eq-eqb y t q.0)
-            back (inr q) = so ∙ or_right (eqb y t) (held y (at [] s i)) q
-        two false k = (λ q. inr (sym so ∙ q), back)
-          where
-            so : held y (at [] (put t ts s) i) ≡ held y (at [] s i)
-            so = ap (held y) (is ∙ ap (λ b. cond b (t ∷ at [] s i) (at [] s i)) k)
-
-            back : ((y ≡ t) × UntilNow W t ts i) ⊎ (held y (at [] s i) ≡ true) → held y (at [] (put t ts s) i) ≡ true
-            back (inl q) = absurd (omega (arith, leb-false p i k, last_one ts t p q.1.2.0 l q.1.2.1, q.1.2.2))
-            back (inr q) = so ∙ q
+new_at W t ts i y h true e =
+    let (p, l) = last_touch W t ts (occupancies W ts) e in
+    let is = put_at t ts (schedule W ts) (length_schedule W ts) p l i (omega (arith, length_schedule W ts)) in
+    let one : (q : ℕ) → LastTouch ts t q → q ≡ p = λ q m. last_one ts t q p m l in
+    let so : held y (at [] (put t ts (schedule W ts)) i) ≡ cond (leb p i) (eqb y t || held y (at [] (schedule W ts) i)) (held y (at [] (schedule W ts) i)) = rw is (grind arith) in
+    let until : leb p i ≡ true → UntilNow W t ts i = λ k. (e, h, (p, l, leb-true p i k)) in
+    (λ q. grind (arith, nat_tests, so, until), λ q. grind (arith, nat_tests, so, one))
 
 pub kept_for_hits : KeptForHits
 unfolding schedule

@@ -4,9 +4,9 @@
 -- puts x in at its last touch, and no row since then takes it out.
 use Rattle.std.proofs.Common.{◌≡◌, ℕ, zero, suc, Bool, true, false, cond, not, ◌&&◌, ◌||◌, eqb, List, [], ◌∷◌, map, length, get_or, sym, refl, ap, ◌∙◌, ap₂, arith}
 use Rattle.std.proofs.lemmas.Bool.Decides.{nat_tests}
-use Rattle.std.proofs.lemmas.Bool.{eqb-true, eq-eqb, or_left, false≢true}
+use Rattle.std.proofs.lemmas.Bool.{eq-eqb, or_left, false≢true}
 use Rattle.histories.specs.Rule.{held, fits, occupancies, hit, verdicts}
-use Rattle.histories.specs.Histories.{latest, Distinct, LegalTurn, Legal, turn_hits}
+use Rattle.histories.specs.Histories.{latest, Distinct, Legal, turn_hits}
 use Rattle.histories.specs.Schedule.{put, schedule, mark, holds, without, resident, rows_with, rows, HeldByRows}
 use Rattle.histories.proofs.Counts.{same_length}
 use Rattle.histories.proofs.Lower.{latest_put, Sound, sound, attains}
@@ -108,17 +108,11 @@ marked W x (t ∷ ts) (h ∷ hs) (c ∷ cs) l e s = go (eqb x t) refl e (marked 
         r = rec f s.1
 
         one : (y : ℕ) → held y (read_row h t (latest (read W ts (mark x ts hs)))) ≡ held y (x ∷ c)
-        one y = two (eqb y x) refl
-          where
-            m : held y (read_row h t (latest (read W ts (mark x ts hs)))) ≡ cond (eqb y t) h (held y (latest (put x ts cs)))
-            m = held_read h t y (latest (read W ts (mark x ts hs))) ∙ ap (cond (eqb y t) h) (same_latest (read W ts (mark x ts hs)) (put x ts cs) r y)
-
-            n : cond (eqb y t) h (held y (latest cs)) ≡ held y c
-            n = ap (cond (eqb y t) h) (sym (same_latest (read W ts hs) cs s.1 y)) ∙ sym (held_read h t y (latest (read W ts hs))) ∙ s.0 y
-
-            two : (b : Bool) → eqb y x ≡ b → held y (read_row h t (latest (read W ts (mark x ts hs)))) ≡ (b || held y c)
-            two true q = let i = eqb-true y x q in m ∙ ap (λ b. cond b h (held y (latest (put x ts cs)))) (ap (λ z. eqb z t) i ∙ k) ∙ ap (λ z. held z (latest (put x ts cs))) i ∙ latest_there W x ts cs l.1 f
-            two false q = m ∙ ap (cond (eqb y t) h) (latest_put x y ts cs q) ∙ n
+        one y =
+            let old = held_read h t y (latest (read W ts hs)) in
+            let new = held_read h t y (latest (read W ts (mark x ts hs))) in
+            let was = s.0 y in
+            grind (arith, nat_tests, same_latest (read W ts (mark x ts hs)) (put x ts cs) r y, same_latest (read W ts hs) cs s.1 y, latest_there W x ts cs l.1 f, latest_put x y ts cs)
 
 latest_schedule : (W : ℕ) (ts : List ℕ) → latest (schedule W ts) ≡ []
 unfolding schedule
@@ -157,19 +151,13 @@ unfolding resident rows_with
 legal_read W [] hs cs l s = tt
 legal_read W (t ∷ ts) hs [] l s = absurd l
 legal_read W (t ∷ ts) [] (c ∷ cs) l s = absurd s
-legal_read W (t ∷ ts) (h ∷ hs) (c ∷ cs) l s = go (legal_read W ts hs cs l.1 s.1)
-  where
-    L : List ℕ
-    L = latest (read W ts hs)
-
-    go : Legal W ts (read W ts hs) → LegalTurn W t (read_row h t L) L × Legal W ts (read W ts hs)
-    go k = (record { distinct = apart; small = omega (arith, same_length (read_row h t L) c apart l.0.distinct s.0, l.0.small); kept = kept }, k)
-      where
-        apart : Distinct (read_row h t L)
-        apart = distinct_read h t L (distinct_latest W ts (read W ts hs) k)
-
-        kept : (y : ℕ) → held y (read_row h t L) ≡ true → held y (t ∷ L) ≡ true
-        kept y e = let m = held_read h t y L in grind (arith, nat_tests)
+legal_read W (t ∷ ts) (h ∷ hs) (c ∷ cs) l s =
+    let L = latest (read W ts hs) in
+    let older = legal_read W ts hs cs l.1 s.1 in
+    let apart = distinct_read h t L (distinct_latest W ts (read W ts hs) older) in
+    let size = same_length (read_row h t L) c apart l.0.distinct s.0 in
+    let small = l.0.small in
+    (record { distinct = apart; small = omega arith; kept = λ y e. grind (arith, nat_tests, held_read h t y L) }, older)
 
 length_mark : (x : ℕ) (ts : List ℕ) (hs : List Bool) → length (mark x ts hs) ≡ length hs
 unfolding mark

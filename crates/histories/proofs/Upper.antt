@@ -86,10 +86,7 @@ step W h H a x p q C (t ∷ ts) (o ∷ os) a1 hH ac s f = go (ltb o W) (eqb x t)
 
 -- but for x, no more lines are held after the turn than before
 fresh : (W x : ℕ) (C D : List ℕ) → LegalTurn W x D C → (r : ℕ → Bool) → r x ≡ false → count r D ≤ count r C
-fresh W x C D t r e = within r C D t.distinct one
-  where
-    one : (y : ℕ) → held y D ≡ true → r y ≡ true → held y C ≡ true
-    one y h k = let m = t.kept y h in grind (arith, nat_tests)
+fresh W x C D t r e = within r C D t.distinct (λ y h k. grind (arith, nat_tests, t.kept y h))
 
 Whole : ℕ → List ℕ → List (List ℕ) → Type 0
 Whole W ts cs = (earned ts cs ≤ hits W ts) × Invariant W (earned ts cs) (hits W ts) all (latest cs) ts (occupancies W ts)
@@ -101,20 +98,12 @@ whole W [] (c ∷ cs) l = absurd l
 whole W (x ∷ ts) [] l = absurd l
 whole W (x ∷ ts) (D ∷ cs) l =
     let k = whole W ts cs l.1 in
-    go (step W (earned ts cs) (hits W ts) (tally (held x C)) x all (less all x) C ts (occupancies W ts) (tally_one (held x C)) k.0 (held_count x C) apart k.1)
-  where
-    C : List ℕ
-    C = latest cs
-
-    g : Bool
-    g = fits W x ts (occupancies W ts)
-
-    apart : (y : ℕ) → tally (less all x y) + tally (only all x y) ≤ tally (all y)
-    apart y = grind arith
-
-    go : Stepped W (tally (held x C) + earned ts cs) (hits W ts) (less all x) C ts (occupancies W ts) (raise x ts (occupancies W ts)) g → Whole W (x ∷ ts) (D ∷ cs)
-    go s =
-        (s.0, (omega arith, omega (arith, l.0.small, count_length all D), other W (tally (held x C) + earned ts cs) (tally g + hits W ts) x (less all x) C D ts (cond g (raise x ts (occupancies W ts)) (occupancies W ts)) (fresh W x C D l.0) (rw (eq-eqb x x refl)) s.1))
+    let C = latest cs in
+    let s = step W (earned ts cs) (hits W ts) (tally (held x C)) x all (less all x) C ts (occupancies W ts) (tally_one (held x C)) k.0 (held_count x C) (λ y. grind arith) k.1 in
+    let turned = raise x ts (occupancies W ts) in
+    let small = l.0.small in
+    let few = count_length all D in
+    (s.0, (omega arith, omega (arith, few), other W _ _ x (less all x) C D ts (cond (fits W x ts (occupancies W ts)) turned (occupancies W ts)) (fresh W x C D l.0) (rw (eq-eqb x x refl)) s.1))
 
 pub upper : Bounded
 unfolding Whole
