@@ -5,9 +5,9 @@
 -- At a touch of x that the history has as a hit, h rises by one, and k falls by one at each gap since x's last touch, where x counted.
 -- The rule's hit raises the same gaps, and H with them. At the rule's miss one of these gaps is full, so  h + k ≤ H  there;
 -- its k counts x and every line that counts at an older gap, which pays for the history's hit at each of those.
-use Rattle.std.proofs.Common.{◌≡◌, ℕ, suc, ◌+◌, ◌<◌, ◌≤◌, Bool, true, false, cond, ◌&&◌, ◌||◌, eqb, ltb, ◌⊎◌, List, [], ◌∷◌, refl, inl, inr, arith}
+use Rattle.std.proofs.Common.{◌≡◌, ℕ, ◌+◌, ◌≤◌, Bool, false, cond, eqb, ◌⊎◌, List, [], ◌∷◌, refl, arith}
 use Rattle.std.proofs.lemmas.Bool.Decides.{nat_tests}
-use Rattle.std.proofs.lemmas.Bool.{ltb-true, ltb-false, eq-eqb}
+use Rattle.std.proofs.lemmas.Bool.{eq-eqb}
 use Rattle.histories.specs.Rule.{tally, held, fits, raise, occupancies, verdicts, hits}
 use Rattle.histories.specs.Histories.{latest, LegalTurn, Legal, turn_hits, earned, Bounded}
 use Rattle.histories.proofs.Counts.{count, all, less, only, count_two, count_mono, count_length, tally_one, held_count, within}
@@ -45,42 +45,17 @@ step : (W h H a x : ℕ) (p q : ℕ → Bool) (C ts os : List ℕ) → a ≤ 1 �
 unfolding fits raise Stepped
 step W h H a x p q C [] os a1 hH ac s f = (omega (arith, count_two q (only p x) p C s), omega (arith, count_two q (only p x) p C s))
 step W h H a x p q C (t ∷ ts) [] a1 hH ac s f = absurd f
-step W h H a x p q C (t ∷ ts) (o ∷ os) a1 hH ac s f = go (ltb o W) (eqb x t) refl refl (step W h H a x (less p t) (less q t) C ts os a1 hH)
-  where
-    below : (y : ℕ) → tally (less q t y) ≤ tally (less p t y)
-    below y = let k = s y in grind arith
-
-    apart : (y : ℕ) → tally (less q t y) + tally (only (less p t) x y) ≤ tally (less p t y)
-    apart y = let k = s y in grind arith
-
-    drops : (y : ℕ) → tally (less q t y) ≤ tally (q y)
-    drops y = grind arith
-
-    stays : eqb x t ≡ false → (y : ℕ) → tally (only p x y) ≤ tally (only (less p t) x y)
-    stays e y = grind (arith, nat_tests)
-
-    go : (l b : Bool) → ltb o W ≡ l → eqb x t ≡ b
-        → (a ≤ count (only (less p t) x) C → ((y : ℕ) → tally (less q t y) + tally (only (less p t) x y) ≤ tally (less p t y)) → Invariant W h H (less p t) C ts os → Stepped W (a + h) H (less q t) C ts os (raise x ts os) (fits W x ts os))
-        → Stepped W (a + h) H q C (t ∷ ts) (o ∷ os) (suc o ∷ cond b os (raise x ts os)) (l && (b || fits W x ts os))
-    go false b l e rec =
-        let m = ltb-false o W l in
-        let c = count_two q (only p x) p C s in
-        (omega arith, (f.0, omega arith, keep W h (a + h) H (0 + H) (count q C) (less p t) (less q t) C ts os below (count_mono (less q t) q C drops) (inr (omega arith)) f.2))
-    go true true l e rec =
-        let m = ltb-true o W l in
-        let c = count_two q (only p x) p C s in
-        (omega arith, (m, omega arith, keep W h (a + h) H (1 + H) (count q C) (less p t) (less q t) C ts os below (count_mono (less q t) q C drops) (inl (omega arith)) f.2))
-    go true false l e rec = front (fits W x ts os) (rec (omega (arith, count_mono (only p x) (only (less p t) x) C (stays e))) apart f.2)
-      where
-        m : o < W
-        m = ltb-true o W l
-
-        c : count q C + count (only p x) C ≤ count p C
-        c = count_two q (only p x) p C s
-
-        front : (b : Bool) → Stepped W (a + h) H (less q t) C ts os (raise x ts os) b → Stepped W (a + h) H q C (t ∷ ts) (o ∷ os) (suc o ∷ raise x ts os) b
-        front true k = (k.0, (m, omega (arith, c), k.1))
-        front false k = (k.0, (f.0, omega (arith, c), k.1))
+step W h H a x p q C (t ∷ ts) (o ∷ os) a1 hH ac s f =
+    let below : (y : ℕ) → tally (less q t y) ≤ tally (less p t y) = λ y. grind (arith, s y) in
+    let apart : (y : ℕ) → tally (less q t y) + tally (only (less p t) x y) ≤ tally (less p t y) = λ y. grind (arith, s y) in
+    let drops : (y : ℕ) → tally (less q t y) ≤ tally (q y) = λ y. grind arith in
+    let stays : eqb x t ≡ false → (y : ℕ) → tally (only p x y) ≤ tally (only (less p t) x y) = λ e y. grind (arith, nat_tests, e) in
+    let c = count_two q (only p x) p C s in
+    let d = count_mono (less q t) q C drops in
+    let fewer : eqb x t ≡ false → count (only p x) C ≤ count (only (less p t) x) C = λ e. count_mono (only p x) (only (less p t) x) C (stays e) in
+    let paid = λ (H' : ℕ) (k : (a + h + H ≤ h + H') ⊎ (a + h + count q C ≤ H')). keep W h (a + h) H H' (count q C) (less p t) (less q t) C ts os below d k f.2 in
+    let rec : a ≤ count (only (less p t) x) C → Stepped W (a + h) H (less q t) C ts os (raise x ts os) (fits W x ts os) = λ k. step W h H a x (less p t) (less q t) C ts os a1 hH k apart f.2 in
+    grind (arith, nat_tests, fewer, paid, rec)
 
 -- ---- the whole history
 
