@@ -78,7 +78,9 @@ raised x [] os e p l i h = absurd (omega (arith, l.past))
 raised x (t ∷ ts) [] e p l i h = absurd (omega arith)
 raised x (t ∷ ts) (o ∷ os) e p l i h =
     let past = l.past in
-    grind (arith, nat_tests, last_newest x t ts p, last_older x t ts p, raised x ts os (omega arith) p, length_raise x ts os, where_is 0 o os i, where_is 0 (suc o) os i, where_is 0 (suc o) (raise x ts os) i)
+    let rec = raised x ts os (omega arith) p in
+    let same = length_raise x ts os in
+    grind (arith, nat_tests, last_newest x t ts p, last_older x t ts p, rec, where_is 0 o os i, where_is 0 (suc o) os i, where_is 0 (suc o) (raise x ts os) i)
 
 -- ---- the whole rule
 

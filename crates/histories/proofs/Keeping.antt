@@ -30,7 +30,9 @@ put_at x [] cs e p l i h = absurd (omega (arith, l.past))
 put_at x (t ∷ ts) [] e p l i h = absurd (omega arith)
 put_at x (t ∷ ts) (c ∷ cs) e p l i h =
     let past = l.past in
-    grind (arith, nat_tests, last_newest x t ts p, last_older x t ts p, put_at x ts cs (omega arith) p, length_put x ts cs, where_is [] c cs i, where_is [] (x ∷ c) cs i, where_is [] (x ∷ c) (put x ts cs) i)
+    let rec = put_at x ts cs (omega arith) p in
+    let same = length_put x ts cs in
+    grind (arith, nat_tests, last_newest x t ts p, last_older x t ts p, rec, where_is [] c cs i, where_is [] (x ∷ c) cs i, where_is [] (x ∷ c) (put x ts cs) i)
 
 -- a line has one last touch
 last_one : (ts : List ℕ) (x p q : ℕ) → LastTouch ts x p → LastTouch ts x q → p ≡ q
@@ -80,7 +82,8 @@ new_at W t ts i y h true e =
     let (p, l) = last_touch W t ts (occupancies W ts) e in
     let is = put_at t ts (schedule W ts) (length_schedule W ts) p l i (omega (arith, length_schedule W ts)) in
     let one : (q : ℕ) → LastTouch ts t q → q ≡ p = λ q m. last_one ts t q p m l in
-    let so : held y (at [] (put t ts (schedule W ts)) i) ≡ cond (leb p i) (eqb y t || held y (at [] (schedule W ts) i)) (held y (at [] (schedule W ts) i)) = rw is (grind arith) in
+    let old = held y (at [] (schedule W ts) i) in
+    let so : held y (at [] (put t ts (schedule W ts)) i) ≡ cond (leb p i) (eqb y t || old) old = rw is (grind arith) in
     let until : leb p i ≡ true → UntilNow W t ts i = λ k. (e, h, (p, l, leb-true p i k)) in
     (λ q. grind (arith, nat_tests, so, until), λ q. grind (arith, nat_tests, so, one))
 
@@ -90,23 +93,13 @@ kept_for_hits W [] i y h = absurd (omega arith)
 kept_for_hits W (t ∷ ts) i y h = go (where_is [] [] (new W t ts (hit W t ts)) i (omega (arith, length_new W t ts (hit W t ts)))) (kept_for_hits W ts i y)
   where
     go : Where [] [] (new W t ts (hit W t ts)) i → (i < length ts → (held y (at [] (schedule W ts) i) ≡ true) ↔ Kept W ts i y) → (held y (at [] ([] ∷ new W t ts (hit W t ts)) i) ≡ true) ↔ Kept W (t ∷ ts) i y
-    go (inl k) rec = (λ q. absurd (false≢true (sym (ap (held y) k.1) ∙ q)), λ q. none (which W t ts i y q))
-      where
-        none : ((y ≡ t) × UntilNow W t ts i) ⊎ Kept W ts i y → held y (at [] ([] ∷ new W t ts (hit W t ts)) i) ≡ true
-        none (inl q) = absurd (omega (arith, k.0, length_new W t ts (hit W t ts), q.1.1))
-        none (inr q) = absurd (omega (arith, k.0, length_new W t ts (hit W t ts), inside W ts i y q))
-    go (inr k) rec = (λ q. one (n.0 (sym (ap (held y) k.1) ∙ q)), λ q. ap (held y) k.1 ∙ n.1 (two (which W t ts i y q)))
-      where
-        low : i < length ts
-        low = omega (arith, k.0, length_new W t ts (hit W t ts))
-
-        n : (held y (at [] (new W t ts (hit W t ts)) i) ≡ true) ↔ (((y ≡ t) × UntilNow W t ts i) ⊎ (held y (at [] (schedule W ts) i) ≡ true))
-        n = new_at W t ts i y low (hit W t ts) refl
-
-        one : ((y ≡ t) × UntilNow W t ts i) ⊎ (held y (at [] (schedule W ts) i) ≡ true) → Kept W (t ∷ ts) i y
-        one (inl q) = subst (Kept W (t ∷ ts) i) (sym q.0) (latest_kept W t ts i q.1)
-        one (inr q) = later W t ts i y ((rec low).0 q)
-
-        two : ((y ≡ t) × UntilNow W t ts i) ⊎ Kept W ts i y → ((y ≡ t) × UntilNow W t ts i) ⊎ (held y (at [] (schedule W ts) i) ≡ true)
-        two (inl q) = inl q
-        two (inr q) = inr ((rec low).1 q)
+    go (inl k) rec =
+        let n = length_new W t ts (hit W t ts) in
+        (λ q. absurd (false≢true (sym (ap (held y) k.1) ∙ q)), λ q. grind (arith, which W t ts i y q, inside W ts i y))
+    go (inr k) rec =
+        let low : i < length ts = omega (arith, k.0, length_new W t ts (hit W t ts)) in
+        let n = new_at W t ts i y low (hit W t ts) refl in
+        let now : y ≡ t → UntilNow W t ts i → Kept W (t ∷ ts) i y = λ e u. subst (Kept W (t ∷ ts) i) (sym e) (latest_kept W t ts i u) in (
+          λ q. let m = n.0 (sym (ap (held y) k.1) ∙ q) in grind (arith, now, later W t ts i y, rec low),
+          λ q. ap (held y) k.1 ∙ n.1 (grind (arith, which W t ts i y q, rec low)),
+        )
