@@ -10,7 +10,8 @@ ghost use Rattle.histories.specs.Rule.{fits, raise, occupancies, hits};
 use std::alloc::{AllocError, Global};
 use std::io;
 
-const LINES: usize = 3;
+/// No trace is longer.
+const LONGEST: usize = 6;
 
 /// For each of the lines 0, 1 and 2, whether it is held.
 type Contents = [bool; 3];
@@ -27,22 +28,14 @@ const EVERY: [Contents; 8] = [
 ];
 
 fn holds(held: Contents, line: u8) -> bool {
-    let line = usize::from(line);
-    line < LINES && held[line]
+    held.get(usize::from(line)).copied().unwrap_or(false)
 }
 
 /// Whether `after` may be held after a touch of `line`, where `before` was held before it.
 fn may_follow(before: Contents, line: u8, after: Contents, ways: u8) -> bool {
-    let mut size = 0;
-    for i in 0..LINES {
-        if after[i] {
-            if !before[i] && usize::from(line) != i {
-                return false;
-            }
-            size += 1;
-        }
-    }
-    size <= usize::from(ways)
+    let size = after.iter().filter(|held| **held).count();
+    let mut lines = before.iter().zip(&after).enumerate();
+    size <= usize::from(ways) && lines.all(|(i, (was, is))| !is || *was || i == usize::from(line))
 }
 
 /// The most hits that the touches still to come can have, where `held` is held before them. The touches have the newest first, so the next is the last.
@@ -62,62 +55,67 @@ fn best(touches: &[u8], held: Contents, ways: u8) -> usize
 }
 
 /// The rule's test: every gap since the last touch of `line` has room, and there is such a touch.
+#[tactic(auto, unfolding(histories::specs::Rule::fits))]
 fn has_room(ways: u8, line: u8, touches: &[u8], gaps: &[u8]) -> bool
-    requires { length gaps.now ≡ length touches.now }
     ensures { result ≡ fits ways line touches.now gaps.now }
 {
-    if touches.is_empty() {
+    let [touch, earlier @ ..] = touches else {
         return false;
-    }
-    gaps[0] < ways && (line == touches[0] || has_room(ways, line, &touches[1..], &gaps[1..]))
+    };
+    let [gap, older @ ..] = gaps else {
+        return false;
+    };
+    *gap < ways && (line == *touch || has_room(ways, line, earlier, older))
 }
 
 /// The rule's raise, where the test has found room.
+#[tactic(auto, unfolding(histories::specs::Rule::fits, histories::specs::Rule::raise))]
 fn fill(ways: u8, line: u8, touches: &[u8], gaps: &mut [u8])
-    requires long { length gaps.old ≡ length touches.now }
-    requires room { fits ways line touches.now gaps.old ≡ true }
+    requires { fits ways line touches.now gaps.old ≡ true }
     ensures { gaps.new ≡ raise line touches.now gaps.old }
 {
-    if touches.is_empty() {
+    let [touch, earlier @ ..] = touches else {
         return;
-    }
-    gaps[0] += 1;
-    if line != touches[0] {
-        fill(ways, line, &touches[1..], &mut gaps[1..]);
+    };
+    let Some((gap, older)) = gaps.split_first_mut() else {
+        return;
+    };
+    *gap += 1;
+    if line != *touch {
+        fill(ways, line, earlier, older);
     }
 }
 
 /// The hits that the rule counts. The gaps are left with its occupancies.
+#[tactic(auto, unfolding(histories::specs::Rule::hits, histories::specs::Rule::verdicts, histories::specs::Rule::occupancies))]
 fn rule(ways: u8, touches: &[u8], gaps: &mut [u8]) -> usize
     requires { length gaps.old ≡ length touches.now }
     ensures count { result ≡ hits ways touches.now }
     ensures small { result ≤ length touches.now }
     ensures gaps { gaps.new ≡ occupancies ways touches.now }
 {
-    if touches.is_empty() {
+    let [line, earlier @ ..] = touches else {
         return 0;
-    }
-    let line = touches[0];
-    let earlier = &touches[1..];
-    let count = rule(ways, earlier, &mut gaps[1..]);
-    gaps[0] = 0;
-    if has_room(ways, line, earlier, &gaps[1..]) {
-        fill(ways, line, earlier, &mut gaps[1..]);
+    };
+    let Some((gap, older)) = gaps.split_first_mut() else {
+        return 0;
+    };
+    *gap = 0;
+    let count = rule(ways, earlier, older);
+    if has_room(ways, *line, earlier, older) {
+        fill(ways, *line, earlier, older);
         count + 1
     } else {
         count
     }
 }
 
-/// How many traces there are of 1, 2 and up to 6 touches.
-const TRACES: [u16; 6] = [3, 9, 27, 81, 243, 729];
-
 /// The trace of a number in base 3, the newest touch first.
-fn trace(number: u16) -> [u8; 6] {
-    let mut touches = [0; 6];
+fn trace(number: u16) -> [u8; LONGEST] {
+    let mut touches = [0; LONGEST];
     let mut left = number;
-    for i in 0..6 {
-        touches[i] = (left % 3) as u8;
+    for touch in &mut touches {
+        *touch = (left % 3) as u8;
         left /= 3;
     }
     touches
@@ -130,26 +128,26 @@ struct Counts {
     agree: bool,
 }
 
-fn tabulate(heap: Global, ways: u8, len: usize, traces: u16) -> Result<Counts, AllocError>
-    requires { len ≤ 6 }
+fn tabulate(heap: Global, ways: u8, len: usize) -> Result<Counts, AllocError>
+    requires { len ≤ LONGEST }
 {
     let mut digits = String::new(heap);
     let mut agree = true;
-    for number in 0..traces {
+    for number in 0..3u16.pow(len as u32) {
         let touches = trace(number);
-        let mut gaps = [0; 6];
+        let mut gaps = [0; LONGEST];
         let most = best(&touches[..len], [false; 3], ways);
         let counted = rule(ways, &touches[..len], &mut gaps[..len]);
         agree = agree && counted == most;
-        digits.push_str(&format!(in heap; "{most}")?)?;
+        write!(digits, "{most}")?;
     }
     Ok(Counts { digits, agree })
 }
 
 fn main(rt: HostRuntime) -> io::Result<()> {
-    for ways in 1..4 {
-        for len in 1..7 {
-            let Counts { digits, agree } = tabulate(rt.alloc(), ways, len, TRACES[len - 1])?;
+    for ways in 1..=3 {
+        for len in 1..=LONGEST {
+            let Counts { digits, agree } = tabulate(rt.alloc(), ways, len)?;
             let said = if agree {
                 "as the rule"
             } else {

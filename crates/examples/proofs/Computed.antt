@@ -1,13 +1,14 @@
 -- Examples, by computing both sides.
 use Rattle.std.proofs.Common.{◌≡◌, ℕ, List, [], ◌∷◌, refl, ap, ap₂}
+use Rattle.std.proofs.lemmas.List.Elements.{All-from_recursion}
 use Rattle.histories.specs.Rule.{fits, raise, occupancies, verdicts, hits}
 use Rattle.histories.specs.Schedule.{mark, holds, resident, seat, lowest, rows_with, rows}
-use Rattle.examples.specs.Table.{TableHolds}
+use Rattle.examples.specs.Table.{Holds, table, TableHolds}
 use Rattle.examples.specs.NearMisses.{gaps_by, verdicts_by, optgen, fits_after, raise_after, NearMisses}
 
 pub table_holds : TableHolds
 unfolding fits raise occupancies verdicts hits mark holds resident seat lowest rows_with rows
-table_holds = (refl, (refl, (refl, (refl, (refl, (refl, (refl, tt)))))))
+table_holds = All-from_recursion Holds table (refl, (refl, (refl, (refl, (refl, (refl, (refl, tt)))))))
 
 same_gaps : (W : ℕ) (ts : List ℕ) → gaps_by (optgen W) ts ≡ occupancies W ts
 unfolding occupancies

@@ -1,6 +1,6 @@
 -- The worked examples, one table. Touches are in their order, the first one first.
 use Rattle.std.specs.Prelude.{◌≡◌, ℕ, Bool, true, false, List, [], ◌∷◌, map, reverse}
-use Rattle.std.specs.List.{AllByRecursion}
+use Rattle.std.specs.List.{All}
 use Rattle.histories.specs.Rule.{tally, verdicts, hits}
 use Rattle.histories.specs.Schedule.{Row, rows}
 use Rattle.replacement.specs.Sets.{lru_hits, srrip_hits}
@@ -59,4 +59,4 @@ table =
     ∷ []
 
 abbrev pub TableHolds : Type 0
-TableHolds = AllByRecursion Holds table
+TableHolds = All Holds table

@@ -1,7 +1,6 @@
 -- How many lines of a list pass a test.
 use Rattle.std.proofs.Common.{◌≡◌, ℕ, ◌+◌, ◌≤◌, Bool, true, false, not, ◌&&◌, eqb, List, [], ◌∷◌, length, sym, refl, ◌∙◌, arith}
 use Rattle.std.proofs.lemmas.Bool.Decides.{nat_tests}
-use Rattle.std.proofs.lemmas.Bool.{and_parts, or_parts, or_right}
 use Rattle.histories.specs.Rule.{tally, held}
 use Rattle.histories.specs.Histories.{Distinct}
 
@@ -50,29 +49,21 @@ count_all (y ∷ ys) = omega (arith, count_all ys)
 
 pub held_count : (x : ℕ) (C : List ℕ) → tally (held x C) ≤ count (eqb x) C
 held_count x [] = omega arith
-held_count x (y ∷ ys) = let k = held_count x ys in grind arith
+held_count x (y ∷ ys) = grind (arith, held_count x ys)
 
 gone_count : (x : ℕ) (C : List ℕ) → held x C ≡ false → count (eqb x) C ≡ 0
 gone_count x [] e = refl
-gone_count x (y ∷ ys) e = let k = gone_count x ys (or_parts (eqb x y) (held x ys) e).1 in grind arith
+gone_count x (y ∷ ys) e = grind (arith, gone_count x ys)
 
 -- of distinct lines that are all held in C, there are no more than in C
 pub within : (r : ℕ → Bool) (C D : List ℕ) → Distinct D → ((y : ℕ) → held y D ≡ true → r y ≡ true → held y C ≡ true) → count r D ≤ count r C
 within r C [] d h = omega arith
 within r C (y ∷ ys) d h =
-    omega (arith, within (less r y) C ys d.1 sub, gone_count y ys d.0, none_zero ys, count_le r none (less r y) (eqb y) ys one, count_two (less r y) (only r y) r C two, here)
-  where
-    one : (v : ℕ) → tally (r v) + tally (none v) ≤ tally (less r y v) + tally (eqb y v)
-    one v = grind arith
-
-    two : (v : ℕ) → tally (less r y v) + tally (only r y v) ≤ tally (r v)
-    two v = grind arith
-
-    sub : (v : ℕ) → held v ys ≡ true → less r y v ≡ true → held v C ≡ true
-    sub v e k = h v (or_right (eqb v y) (held v ys) e) (and_parts (r v) (not (eqb y v)) k).0
-
-    here : tally (r y) ≤ count (only r y) C
-    here = let k = h y in let u = held_count y C in grind (arith, nat_tests)
+    let one : (v : ℕ) → tally (r v) + tally (none v) ≤ tally (less r y v) + tally (eqb y v) = λ v. grind arith in
+    let two : (v : ℕ) → tally (less r y v) + tally (only r y v) ≤ tally (r v) = λ v. grind arith in
+    let sub : (v : ℕ) → held v ys ≡ true → less r y v ≡ true → held v C ≡ true = λ v e k. grind (arith, h v) in
+    let here : tally (r y) ≤ count (only r y) C = grind (arith, nat_tests, h y, held_count y C) in
+    omega (arith, within (less r y) C ys d.1 sub, gone_count y ys d.0, none_zero ys, count_le r none (less r y) (eqb y) ys one, count_two (less r y) (only r y) r C two)
 
 -- distinct lists of the same lines have one length
 pub same_length : (C D : List ℕ) → Distinct C → Distinct D → ((y : ℕ) → held y C ≡ held y D) → length C ≡ length D

@@ -1,6 +1,7 @@
 -- The schedule by index: a line is held exactly between a touch and its next, where that next one is a hit.
-use Rattle.std.proofs.Common.{◌≡◌, ℕ, suc, ◌<◌, ◌≤◌, Bool, true, false, cond, ◌||◌, eqb, leb, ◌⊎◌, ◌↔◌, List, [], ◌∷◌, ◌++◌, length, get_or, drop, sym, refl, ap, ◌∙◌, subst, inl, inr, arith, length-append}
-use Rattle.std.proofs.lemmas.Bool.{cases_order, eqb-true, eqb-false, eq-eqb, le-leb, lt-leb, or_cases, or_left, or_right, leb-true, leb-false, both_ways, false≢true}
+use Rattle.std.proofs.Common.{◌≡◌, ℕ, ◌<◌, ◌≤◌, Bool, true, false, cond, ◌||◌, eqb, leb, ◌⊎◌, ◌↔◌, List, [], ◌∷◌, ◌++◌, length, get_or, drop, sym, refl, ap, ◌∙◌, subst, inl, inr, arith, length-append}
+use Rattle.std.proofs.lemmas.Bool.{leb-true, both_ways, false≢true}
+use Rattle.std.proofs.lemmas.Bool.Decides.{nat_tests}
 use Rattle.histories.specs.Rule.{held, occupancies, hit, LastTouch}
 use Rattle.histories.specs.Histories.{Legal}
 use Rattle.histories.specs.Schedule.{put, schedule, Kept, KeptForHits}
@@ -11,17 +12,13 @@ length_put : (x : ℕ) (ts : List ℕ) (cs : List (List ℕ)) → length (put x 
 unfolding put
 length_put x [] cs = refl
 length_put x (t ∷ ts) [] = refl
-length_put x (t ∷ ts) (c ∷ cs) = go (eqb x t) (length_put x ts cs)
-  where
-    go : (b : Bool) → length (put x ts cs) ≡ length cs → suc (length (cond b cs (put x ts cs))) ≡ suc (length cs)
-    go true e = refl
-    go false e = ap suc e
+length_put x (t ∷ ts) (c ∷ cs) = grind (arith, length_put x ts cs)
 
 length_legal : (W : ℕ) (ts : List ℕ) (cs : List (List ℕ)) → Legal W ts cs → length cs ≡ length ts
 length_legal W [] [] l = refl
 length_legal W [] (c ∷ cs) l = absurd l
 length_legal W (t ∷ ts) [] l = absurd l
-length_legal W (t ∷ ts) (c ∷ cs) l = ap suc (length_legal W ts cs l.1)
+length_legal W (t ∷ ts) (c ∷ cs) l = grind (arith, length_legal W ts cs)
 
 length_schedule : (W : ℕ) (ts : List ℕ) → length (schedule W ts) ≡ length ts
 length_schedule W ts = length_legal W ts (schedule W ts) (sound W ts).legal
@@ -31,30 +28,15 @@ put_at : (x : ℕ) (ts : List ℕ) (cs : List (List ℕ)) → length cs ≡ leng
 unfolding put
 put_at x [] cs e p l i h = absurd (omega (arith, l.past))
 put_at x (t ∷ ts) [] e p l i h = absurd (omega arith)
-put_at x (t ∷ ts) (c ∷ cs) e p l i h = go (eqb x t) refl (put_at x ts cs (omega arith) p)
-  where
-    front : (ds : List (List ℕ)) → length ds ≡ length cs → (i < length cs → at [] ds i ≡ cond (leb p i) (x ∷ at [] cs i) (at [] cs i)) → at [] ((x ∷ c) ∷ ds) i ≡ cond (leb p i) (x ∷ at [] (c ∷ cs) i) (at [] (c ∷ cs) i)
-    front ds n rec = one (where_is [] (x ∷ c) ds i (omega arith)) (where_is [] c cs i h)
-      where
-        one : Where [] (x ∷ c) ds i → Where [] c cs i → at [] ((x ∷ c) ∷ ds) i ≡ cond (leb p i) (x ∷ at [] (c ∷ cs) i) (at [] (c ∷ cs) i)
-        one (inl a) (inl b) = rw (a.1, b.1, le-leb p i (omega (arith, l.past)))
-        one (inl a) (inr b) = absurd (omega arith)
-        one (inr a) (inl b) = absurd (omega arith)
-        one (inr a) (inr b) = rw (a.1, b.1) (rec b.0)
-
-    go : (b : Bool) → eqb x t ≡ b → (LastTouch ts x p → (i : ℕ) → i < length cs → at [] (put x ts cs) i ≡ cond (leb p i) (x ∷ at [] cs i) (at [] cs i))
-        → at [] ((x ∷ c) ∷ cond b cs (put x ts cs)) i ≡ cond (leb p i) (x ∷ at [] (c ∷ cs) i) (at [] (c ∷ cs) i)
-    go true k rec = front cs refl (λ a. rw (lt-leb p i (omega (arith, last_newest x t ts p (eqb-true x t k) l))))
-    go false k rec = front (put x ts cs) (length_put x ts cs) (rec (last_older x t ts p (eqb-false x t k) l) i)
+put_at x (t ∷ ts) (c ∷ cs) e p l i h =
+    let past = l.past in
+    let rec = put_at x ts cs (omega arith) p in
+    let same = length_put x ts cs in
+    grind (arith, nat_tests, last_newest x t ts p, last_older x t ts p, rec, where_is [] c cs i, where_is [] (x ∷ c) cs i, where_is [] (x ∷ c) (put x ts cs) i)
 
 -- a line has one last touch
 last_one : (ts : List ℕ) (x p q : ℕ) → LastTouch ts x p → LastTouch ts x q → p ≡ q
-last_one ts x p q l m = go (cases_order p q)
-  where
-    go : (p ≡ q) ⊎ ((p < q) ⊎ (q < p)) → p ≡ q
-    go (inl e) = e
-    go (inr (inl h)) = absurd (l.since q h m.past m.here)
-    go (inr (inr h)) = absurd (m.since p h l.past l.here)
+last_one ts x p q l m = let here = l.here in let there = m.here in grind (arith, l.since q, m.since p, l.past, m.past)
 
 -- ---- one more touch
 
@@ -96,38 +78,14 @@ new_at W t ts i y h false e = (λ k. inr k, back)
     back : ((y ≡ t) × UntilNow W t ts i) ⊎ (held y (at [] (schedule W ts) i) ≡ true) → held y (at [] (schedule W ts) i) ≡ true
     back (inl k) = absurd (both_ways (hit W t ts) e k.1.0)
     back (inr k) = k
-new_at W t ts i y h true e = go (last_touch W t ts (occupancies W ts) e)
-  where
-    s : List (List ℕ)
-    s = schedule W ts
-
-    go : (p : ℕ) × LastTouch ts t p → (held y (at [] (put t ts s) i) ≡ true) ↔ (((y ≡ t) × UntilNow W t ts i) ⊎ (held y (at [] s i) ≡ true))
-    go (p, l) = two (leb p i) refl
-      where
-        is : at [] (put t ts s) i ≡ cond (leb p i) (t ∷ at [] s i) (at [] s i)
-        is = put_at t ts s (length_schedule W ts) p l i (omega (arith, length_schedule W ts))
-
-        two : (b : Bool) → leb p i ≡ b → (held y (at [] (put t ts s) i) ≡ true) ↔ (((y ≡ t) × UntilNow W t ts i) ⊎ (held y (at [] s i) ≡ true))
-        two true k = (λ q. one (or_cases (eqb y t) (held y (at [] s i)) (sym so ∙ q)), back)
-          where
-            so : held y (at [] (put t ts s) i) ≡ (eqb y t || held y (at [] s i))
-            so = ap (held y) (is ∙ ap (λ b. cond b (t ∷ at [] s i) (at [] s i)) k)
-
-            one : (eqb y t ≡ true) ⊎ (held y (at [] s i) ≡ true) → ((y ≡ t) × UntilNow W t ts i) ⊎ (held y (at [] s i) ≡ true)
-            one (inl q) = inl (eqb-true y t q, (e, h, (p, l, leb-true p i k)))
-            one (inr q) = inr q
-
-            back : ((y ≡ t) × UntilNow W t ts i) ⊎ (held y (at [] s i) ≡ true) → held y (at [] (put t ts s) i) ≡ true
-            back (inl q) = so ∙ or_left (eqb y t) (held y (at [] s i)) (eq-eqb y t q.0)
-            back (inr q) = so ∙ or_right (eqb y t) (held y (at [] s i)) q
-        two false k = (λ q. inr (sym so ∙ q), back)
-          where
-            so : held y (at [] (put t ts s) i) ≡ held y (at [] s i)
-            so = ap (held y) (is ∙ ap (λ b. cond b (t ∷ at [] s i) (at [] s i)) k)
-
-            back : ((y ≡ t) × UntilNow W t ts i) ⊎ (held y (at [] s i) ≡ true) → held y (at [] (put t ts s) i) ≡ true
-            back (inl q) = absurd (omega (arith, leb-false p i k, last_one ts t p q.1.2.0 l q.1.2.1, q.1.2.2))
-            back (inr q) = so ∙ q
+new_at W t ts i y h true e =
+    let (p, l) = last_touch W t ts (occupancies W ts) e in
+    let is = put_at t ts (schedule W ts) (length_schedule W ts) p l i (omega (arith, length_schedule W ts)) in
+    let one : (q : ℕ) → LastTouch ts t q → q ≡ p = λ q m. last_one ts t q p m l in
+    let old = held y (at [] (schedule W ts) i) in
+    let so : held y (at [] (put t ts (schedule W ts)) i) ≡ cond (leb p i) (eqb y t || old) old = rw is (grind arith) in
+    let until : leb p i ≡ true → UntilNow W t ts i = λ k. (e, h, (p, l, leb-true p i k)) in
+    (λ q. grind (arith, nat_tests, so, until), λ q. grind (arith, nat_tests, so, one))
 
 pub kept_for_hits : KeptForHits
 unfolding schedule
@@ -135,23 +93,13 @@ kept_for_hits W [] i y h = absurd (omega arith)
 kept_for_hits W (t ∷ ts) i y h = go (where_is [] [] (new W t ts (hit W t ts)) i (omega (arith, length_new W t ts (hit W t ts)))) (kept_for_hits W ts i y)
   where
     go : Where [] [] (new W t ts (hit W t ts)) i → (i < length ts → (held y (at [] (schedule W ts) i) ≡ true) ↔ Kept W ts i y) → (held y (at [] ([] ∷ new W t ts (hit W t ts)) i) ≡ true) ↔ Kept W (t ∷ ts) i y
-    go (inl k) rec = (λ q. absurd (false≢true (sym (ap (held y) k.1) ∙ q)), λ q. none (which W t ts i y q))
-      where
-        none : ((y ≡ t) × UntilNow W t ts i) ⊎ Kept W ts i y → held y (at [] ([] ∷ new W t ts (hit W t ts)) i) ≡ true
-        none (inl q) = absurd (omega (arith, k.0, length_new W t ts (hit W t ts), q.1.1))
-        none (inr q) = absurd (omega (arith, k.0, length_new W t ts (hit W t ts), inside W ts i y q))
-    go (inr k) rec = (λ q. one (n.0 (sym (ap (held y) k.1) ∙ q)), λ q. ap (held y) k.1 ∙ n.1 (two (which W t ts i y q)))
-      where
-        low : i < length ts
-        low = omega (arith, k.0, length_new W t ts (hit W t ts))
-
-        n : (held y (at [] (new W t ts (hit W t ts)) i) ≡ true) ↔ (((y ≡ t) × UntilNow W t ts i) ⊎ (held y (at [] (schedule W ts) i) ≡ true))
-        n = new_at W t ts i y low (hit W t ts) refl
-
-        one : ((y ≡ t) × UntilNow W t ts i) ⊎ (held y (at [] (schedule W ts) i) ≡ true) → Kept W (t ∷ ts) i y
-        one (inl q) = subst (Kept W (t ∷ ts) i) (sym q.0) (latest_kept W t ts i q.1)
-        one (inr q) = later W t ts i y ((rec low).0 q)
-
-        two : ((y ≡ t) × UntilNow W t ts i) ⊎ Kept W ts i y → ((y ≡ t) × UntilNow W t ts i) ⊎ (held y (at [] (schedule W ts) i) ≡ true)
-        two (inl q) = inl q
-        two (inr q) = inr ((rec low).1 q)
+    go (inl k) rec =
+        let n = length_new W t ts (hit W t ts) in
+        (λ q. absurd (false≢true (sym (ap (held y) k.1) ∙ q)), λ q. grind (arith, which W t ts i y q, inside W ts i y))
+    go (inr k) rec =
+        let low : i < length ts = omega (arith, k.0, length_new W t ts (hit W t ts)) in
+        let n = new_at W t ts i y low (hit W t ts) refl in
+        let now : y ≡ t → UntilNow W t ts i → Kept W (t ∷ ts) i y = λ e u. subst (Kept W (t ∷ ts) i) (sym e) (latest_kept W t ts i u) in (
+          λ q. let m = n.0 (sym (ap (held y) k.1) ∙ q) in grind (arith, now, later W t ts i y, rec low),
+          λ q. ap (held y) k.1 ∙ n.1 (grind (arith, which W t ts i y q, rec low)),
+        )

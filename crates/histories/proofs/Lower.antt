@@ -2,9 +2,9 @@
 --
 -- One induction over the touches. A hit of x puts x into each gap since its last touch. Those gaps have room, since their sizes are
 -- the occupancies that the rule has tested; x stood in none of them; and no earlier verdict of the history changes.
-use Rattle.std.proofs.Common.{◌≡◌, ℕ, suc, Bool, true, false, cond, ◌||◌, eqb, ltb, List, [], ◌∷◌, map, length, sum, sym, refl, ap, arith}
+use Rattle.std.proofs.Common.{◌≡◌, ℕ, Bool, true, false, eqb, List, [], ◌∷◌, map, length, sum, sym, refl, ap, arith}
 use Rattle.std.proofs.lemmas.Bool.Decides.{nat_tests}
-use Rattle.std.proofs.lemmas.Bool.{ltb-true, eq-eqb, and_parts, or_left, or_right, false≢true}
+use Rattle.std.proofs.lemmas.Bool.{false≢true}
 use Rattle.histories.specs.Rule.{trues, held, fits, raise, occupancies, verdicts, hits}
 use Rattle.histories.specs.Histories.{latest, LegalTurn, Legal, turn_hits, earned}
 use Rattle.histories.specs.Schedule.{put, schedule, Attains, Attained}
@@ -29,11 +29,7 @@ absent_put : (x y : ℕ) (ts : List ℕ) (cs : List (List ℕ)) → eqb y x ≡ 
 unfolding put
 absent_put x y [] cs e a = tt
 absent_put x y (t ∷ ts) [] e a = tt
-absent_put x y (t ∷ ts) (c ∷ cs) e a = (rw e a.0, λ n. go (eqb x t) n (absent_put x y ts cs e))
-  where
-    go : (b : Bool) → eqb y t ≡ false → (Absent y ts cs → Absent y ts (put x ts cs)) → Absent y ts (cond b cs (put x ts cs))
-    go true n rec = a.1 n
-    go false n rec = rec (a.1 n)
+absent_put x y (t ∷ ts) (c ∷ cs) e a = grind (arith, nat_tests, absent_put x y ts cs)
 
 pub latest_put : (x y : ℕ) (ts : List ℕ) (cs : List (List ℕ)) → eqb y x ≡ false → held y (latest (put x ts cs)) ≡ held y (latest cs)
 unfolding put
@@ -45,18 +41,14 @@ latest_more : (x y : ℕ) (ts : List ℕ) (cs : List (List ℕ)) → held y (lat
 unfolding put
 latest_more x y [] cs e = e
 latest_more x y (t ∷ ts) [] e = e
-latest_more x y (t ∷ ts) (c ∷ cs) e = or_right (eqb y x) (held y c) e
+latest_more x y (t ∷ ts) (c ∷ cs) e = grind arith
 
 -- the sizes rise as the occupancies do
 put_length : (x : ℕ) (ts : List ℕ) (cs : List (List ℕ)) → raise x ts (map length cs) ≡ map length (put x ts cs)
 unfolding put raise
 put_length x [] cs = refl
 put_length x (t ∷ ts) [] = refl
-put_length x (t ∷ ts) (c ∷ cs) = go (eqb x t) (put_length x ts cs)
-  where
-    go : (b : Bool) → raise x ts (map length cs) ≡ map length (put x ts cs) → suc (length c) ∷ cond b (map length cs) (raise x ts (map length cs)) ≡ suc (length c) ∷ map length (cond b cs (put x ts cs))
-    go true e = refl
-    go false e = ap (λ (r : List ℕ). suc (length c) ∷ r) e
+put_length x (t ∷ ts) (c ∷ cs) = grind (arith, put_length x ts cs)
 
 -- the history after a hit of x has put it in
 record Added (W x : ℕ) (ts : List ℕ) (cs : List (List ℕ)) : Type 0 where
@@ -69,25 +61,16 @@ unfolding put fits turn_hits
 added W x [] cs l a f = absurd (false≢true f)
 added W x (t ∷ ts) [] l a f = absurd l
 added W x (t ∷ ts) (c ∷ cs) l a f =
-    let k = go (eqb x t) refl fs.1 (added W x ts cs l.1) in
-    record { legal = k.0; there = or_left (eqb x x) (held x c) (eq-eqb x x refl); same = k.1 }
-  where
-    fs : (ltb (length c) W ≡ true) × ((eqb x t || fits W x ts (map length cs)) ≡ true)
-    fs = and_parts (ltb (length c) W) (eqb x t || fits W x ts (map length cs)) f
-
-    turn : (d : List ℕ) → held x (t ∷ d) ≡ true → ((y : ℕ) → held y (latest cs) ≡ true → held y d ≡ true) → LegalTurn W t (x ∷ c) d
-    turn d h up = record { distinct = (a.0, l.0.distinct); small = omega (arith, ltb-true (length c) W fs.0); kept = keep }
-      where
-        keep : (y : ℕ) → held y (x ∷ c) ≡ true → held y (t ∷ d) ≡ true
-        keep y e = let k = l.0.kept y in let u = up y in grind (arith, nat_tests)
-
-    go : (b : Bool) → eqb x t ≡ b → (b || fits W x ts (map length cs)) ≡ true → (Absent x ts cs → fits W x ts (map length cs) ≡ true → Added W x ts cs)
-        → (LegalTurn W t (x ∷ c) (latest (cond b cs (put x ts cs))) × Legal W ts (cond b cs (put x ts cs)))
-        × (held t (latest (cond b cs (put x ts cs))) ∷ turn_hits ts (cond b cs (put x ts cs)) ≡ held t (latest cs) ∷ turn_hits ts cs)
-    go true e g rec = ((turn (latest cs) (or_left (eqb x t) (held x (latest cs)) e) (λ y h. h), l.1), refl)
-    go false e g rec =
-        let k = rec (a.1 e) g in
-        ((turn (latest (put x ts cs)) (or_right (eqb x t) (held x (latest (put x ts cs))) k.there) (λ y h. latest_more x y ts cs h), k.legal), rw (latest_put x t ts cs (eqb_turn x t e), k.same))
+    let rec : eqb x t ≡ false → Added W x ts cs = λ n. added W x ts cs l.1 (a.1 n) (grind (arith, n)) in
+    let legal : eqb x t ≡ false → Legal W ts (put x ts cs) = λ n. (rec n).legal in
+    let there : eqb x t ≡ false → held x (latest (put x ts cs)) ≡ true = λ n. (rec n).there in
+    let same : eqb x t ≡ false → turn_hits ts (put x ts cs) ≡ turn_hits ts cs = λ n. (rec n).same in
+    let kept = l.0.kept in
+    record {
+      legal = (record { distinct = (a.0, l.0.distinct); small = grind (arith, nat_tests); kept = λ y e. grind (arith, nat_tests, kept y, there, latest_more x y ts cs) }, grind (arith, legal));
+      there = grind (arith, nat_tests);
+      same = grind (arith, nat_tests, same, latest_put x t ts cs);
+    }
 
 -- what the induction carries
 pub record Sound (W : ℕ) (ts : List ℕ) : Type 0 where

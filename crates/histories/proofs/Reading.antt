@@ -2,11 +2,11 @@
 --
 -- One induction over the touches: a hit of x sets the hold of its last touch and puts x into each gap since. Read forward, that hold
 -- puts x in at its last touch, and no row since then takes it out.
-use Rattle.std.proofs.Common.{◌≡◌, ℕ, zero, suc, Bool, true, false, cond, not, ◌&&◌, ◌||◌, eqb, ltb, List, [], ◌∷◌, map, length, get_or, sym, refl, ap, ◌∙◌, ap₂, arith}
+use Rattle.std.proofs.Common.{◌≡◌, ℕ, zero, suc, Bool, true, false, cond, not, ◌&&◌, ◌||◌, eqb, List, [], ◌∷◌, map, length, get_or, sym, refl, ap, ◌∙◌, ap₂, arith}
 use Rattle.std.proofs.lemmas.Bool.Decides.{nat_tests}
-use Rattle.std.proofs.lemmas.Bool.{eqb-true, eq-eqb, and_parts, or_left, false≢true}
+use Rattle.std.proofs.lemmas.Bool.{eq-eqb, or_left, false≢true}
 use Rattle.histories.specs.Rule.{held, fits, occupancies, hit, verdicts}
-use Rattle.histories.specs.Histories.{latest, Distinct, LegalTurn, Legal, turn_hits}
+use Rattle.histories.specs.Histories.{latest, Distinct, Legal, turn_hits}
 use Rattle.histories.specs.Schedule.{put, schedule, mark, holds, without, resident, rows_with, rows, HeldByRows}
 use Rattle.histories.proofs.Counts.{same_length}
 use Rattle.histories.proofs.Lower.{latest_put, Sound, sound, attains}
@@ -19,11 +19,7 @@ read_row h x c = cond h (x ∷ without x c) (without x c)
 
 held_without : (x y : ℕ) (c : List ℕ) → held y (without x c) ≡ (not (eqb y x) && held y c)
 held_without x y [] = grind arith
-held_without x y (z ∷ zs) = go (eqb x z) refl (held_without x y zs)
-  where
-    go : (b : Bool) → eqb x z ≡ b → held y (without x zs) ≡ (not (eqb y x) && held y zs) → held y (cond b (without x zs) (z ∷ without x zs)) ≡ (not (eqb y x) && (eqb y z || held y zs))
-    go true e h = grind (arith, nat_tests)
-    go false e h = grind (arith, nat_tests)
+held_without x y (z ∷ zs) = grind (arith, nat_tests, held_without x y zs)
 
 pub held_read : (h : Bool) (x y : ℕ) (c : List ℕ) → held y (read_row h x c) ≡ cond (eqb y x) h (held y c)
 held_read true x y c = let k = held_without x y c in grind (arith, nat_tests)
@@ -31,11 +27,7 @@ held_read false x y c = let k = held_without x y c in grind (arith, nat_tests)
 
 distinct_without : (x : ℕ) (c : List ℕ) → Distinct c → Distinct (without x c)
 distinct_without x [] d = tt
-distinct_without x (z ∷ zs) d = go (eqb x z) (distinct_without x zs d.1)
-  where
-    go : (b : Bool) → Distinct (without x zs) → Distinct (cond b (without x zs) (z ∷ without x zs))
-    go true k = k
-    go false k = (let m = held_without x z zs in let n = d.0 in grind arith, k)
+distinct_without x (z ∷ zs) d = grind (arith, nat_tests, distinct_without x zs, held_without x z zs)
 
 distinct_read : (h : Bool) (x : ℕ) (c : List ℕ) → Distinct c → Distinct (read_row h x c)
 distinct_read true x c d = (let m = held_without x x c in grind (arith, nat_tests), distinct_without x c d)
@@ -75,7 +67,7 @@ same_turns [] cs ds s = refl
 same_turns (t ∷ ts) [] [] s = refl
 same_turns (t ∷ ts) [] (d ∷ ds) s = absurd s
 same_turns (t ∷ ts) (c ∷ cs) [] s = absurd s
-same_turns (t ∷ ts) (c ∷ cs) (d ∷ ds) s = ap₂ ◌∷◌ (same_latest cs ds s.1 t) (same_turns ts cs ds s.1)
+same_turns (t ∷ ts) (c ∷ cs) (d ∷ ds) s = grind (arith, same_latest cs ds s.1 t, same_turns ts cs ds s.1)
 
 same_sizes : (W : ℕ) (ts : List ℕ) (cs ds : List (List ℕ)) → Legal W ts cs → Legal W ts ds → Same cs ds → map length cs ≡ map length ds
 same_sizes W ts [] [] k l s = refl
@@ -116,17 +108,11 @@ marked W x (t ∷ ts) (h ∷ hs) (c ∷ cs) l e s = go (eqb x t) refl e (marked 
         r = rec f s.1
 
         one : (y : ℕ) → held y (read_row h t (latest (read W ts (mark x ts hs)))) ≡ held y (x ∷ c)
-        one y = two (eqb y x) refl
-          where
-            m : held y (read_row h t (latest (read W ts (mark x ts hs)))) ≡ cond (eqb y t) h (held y (latest (put x ts cs)))
-            m = held_read h t y (latest (read W ts (mark x ts hs))) ∙ ap (cond (eqb y t) h) (same_latest (read W ts (mark x ts hs)) (put x ts cs) r y)
-
-            n : cond (eqb y t) h (held y (latest cs)) ≡ held y c
-            n = ap (cond (eqb y t) h) (sym (same_latest (read W ts hs) cs s.1 y)) ∙ sym (held_read h t y (latest (read W ts hs))) ∙ s.0 y
-
-            two : (b : Bool) → eqb y x ≡ b → held y (read_row h t (latest (read W ts (mark x ts hs)))) ≡ (b || held y c)
-            two true q = let i = eqb-true y x q in m ∙ ap (λ b. cond b h (held y (latest (put x ts cs)))) (ap (λ z. eqb z t) i ∙ k) ∙ ap (λ z. held z (latest (put x ts cs))) i ∙ latest_there W x ts cs l.1 f
-            two false q = m ∙ ap (cond (eqb y t) h) (latest_put x y ts cs q) ∙ n
+        one y =
+            let old = held_read h t y (latest (read W ts hs)) in
+            let new = held_read h t y (latest (read W ts (mark x ts hs))) in
+            let was = s.0 y in
+            grind (arith, nat_tests, same_latest (read W ts (mark x ts hs)) (put x ts cs) r y, same_latest (read W ts hs) cs s.1 y, latest_there W x ts cs l.1 f, latest_put x y ts cs)
 
 latest_schedule : (W : ℕ) (ts : List ℕ) → latest (schedule W ts) ≡ []
 unfolding schedule
@@ -137,7 +123,7 @@ fits_held : (W x : ℕ) (ts os : List ℕ) → fits W x ts os ≡ true → held 
 unfolding fits
 fits_held W x [] os f = f
 fits_held W x (t ∷ ts) [] f = absurd (false≢true f)
-fits_held W x (t ∷ ts) (o ∷ os) f = let k = fits_held W x ts os in let m = (and_parts (ltb o W) (eqb x t || fits W x ts os) f).1 in grind arith
+fits_held W x (t ∷ ts) (o ∷ os) f = grind (arith, fits_held W x ts os)
 
 -- the holds that the rule gives, read forward, and the schedule
 same : (W : ℕ) (ts : List ℕ) → Same (read W ts (holds W ts)) (schedule W ts)
@@ -150,11 +136,7 @@ same W (t ∷ ts) = go (hit W t ts) refl (same W ts)
 
     -- nothing but t was held before, and t is taken out
     emptied : (cs ds : List (List ℕ)) → Same cs ds → ((y : ℕ) → eqb y t ≡ false → held y (latest ds) ≡ false) → (y : ℕ) → held y (read_row false t (latest cs)) ≡ false
-    emptied cs ds k n y = held_read false t y (latest cs) ∙ two (eqb y t) refl
-      where
-        two : (b : Bool) → eqb y t ≡ b → cond b false (held y (latest cs)) ≡ false
-        two true e = refl
-        two false e = same_latest cs ds k y ∙ n y e
+    emptied cs ds k n y = grind (arith, nat_tests, held_read false t y (latest cs), same_latest cs ds k y, n y)
 
     go : (b : Bool) → hit W t ts ≡ b → Same (read W ts (holds W ts)) s
         → Same (read W (t ∷ ts) (false ∷ cond b (mark t ts (holds W ts)) (holds W ts))) ([] ∷ cond b (put t ts s) s)
@@ -169,38 +151,24 @@ unfolding resident rows_with
 legal_read W [] hs cs l s = tt
 legal_read W (t ∷ ts) hs [] l s = absurd l
 legal_read W (t ∷ ts) [] (c ∷ cs) l s = absurd s
-legal_read W (t ∷ ts) (h ∷ hs) (c ∷ cs) l s = go (legal_read W ts hs cs l.1 s.1)
-  where
-    L : List ℕ
-    L = latest (read W ts hs)
-
-    go : Legal W ts (read W ts hs) → LegalTurn W t (read_row h t L) L × Legal W ts (read W ts hs)
-    go k = (record { distinct = apart; small = omega (arith, same_length (read_row h t L) c apart l.0.distinct s.0, l.0.small); kept = kept }, k)
-      where
-        apart : Distinct (read_row h t L)
-        apart = distinct_read h t L (distinct_latest W ts (read W ts hs) k)
-
-        kept : (y : ℕ) → held y (read_row h t L) ≡ true → held y (t ∷ L) ≡ true
-        kept y e = let m = held_read h t y L in grind (arith, nat_tests)
+legal_read W (t ∷ ts) (h ∷ hs) (c ∷ cs) l s =
+    let L = latest (read W ts hs) in
+    let older = legal_read W ts hs cs l.1 s.1 in
+    let apart = distinct_read h t L (distinct_latest W ts (read W ts hs) older) in
+    let size = same_length (read_row h t L) c apart l.0.distinct s.0 in
+    let small = l.0.small in
+    (record { distinct = apart; small = omega arith; kept = λ y e. grind (arith, nat_tests, held_read h t y L) }, older)
 
 length_mark : (x : ℕ) (ts : List ℕ) (hs : List Bool) → length (mark x ts hs) ≡ length hs
 unfolding mark
 length_mark x [] hs = refl
 length_mark x (t ∷ ts) [] = refl
-length_mark x (t ∷ ts) (h ∷ hs) = go (eqb x t) (length_mark x ts hs)
-  where
-    go : (b : Bool) → length (mark x ts hs) ≡ length hs → length (cond b (true ∷ hs) (h ∷ mark x ts hs)) ≡ suc (length hs)
-    go true e = refl
-    go false e = ap suc e
+length_mark x (t ∷ ts) (h ∷ hs) = grind (arith, length_mark x ts hs)
 
 pub length_holds : (W : ℕ) (ts : List ℕ) → length (holds W ts) ≡ length ts
 unfolding holds
 length_holds W [] = refl
-length_holds W (t ∷ ts) = go (hit W t ts) (length_holds W ts)
-  where
-    go : (b : Bool) → length (holds W ts) ≡ length ts → suc (length (cond b (mark t ts (holds W ts)) (holds W ts))) ≡ suc (length ts)
-    go true e = ap suc (length_mark t ts (holds W ts) ∙ e)
-    go false e = ap suc e
+length_holds W (t ∷ ts) = grind (arith, length_mark t ts (holds W ts), length_holds W ts)
 
 lines : (W : ℕ) (ts : List ℕ) (hs : List Bool) → length hs ≡ length ts → map (λ r. r.line) (rows_with W ts hs) ≡ ts
 unfolding rows_with

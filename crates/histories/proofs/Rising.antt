@@ -25,8 +25,14 @@ pub rises : Rises
 unfolding hits verdicts
 rises W x ts = record {
   best = best W ts;
-  rise = (λ e n b. into (suc n) (omega (arith, ap tally e, unique W ts n (hits W ts) b (best W ts))), λ h. tally_true (hit W x ts) (omega (arith, from (suc (hits W ts)) (h (hits W ts) (best W ts)))));
-  stay = (λ e n b. into n (omega (arith, ap tally e, unique W ts n (hits W ts) b (best W ts))), λ h. tally_false (hit W x ts) (omega (arith, from (hits W ts) (h (hits W ts) (best W ts)))));
+  rise = (
+    λ e n b. into (suc n) (omega (arith, ap tally e, unique W ts n (hits W ts) b (best W ts))),
+    λ h. let k = from (suc (hits W ts)) (h (hits W ts) (best W ts)) in grind arith,
+  );
+  stay = (
+    λ e n b. into n (omega (arith, ap tally e, unique W ts n (hits W ts) b (best W ts))),
+    λ h. let k = from (hits W ts) (h (hits W ts) (best W ts)) in grind arith,
+  );
 }
   where
     into : (n : ℕ) → tally (hit W x ts) + hits W ts ≡ n → Best W (x ∷ ts) n

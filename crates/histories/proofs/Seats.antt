@@ -2,10 +2,10 @@
 --
 -- A missed line that is kept finds a way, since fewer than W lines are held before it, and takes none that is taken.
 -- A hit's line is held already, and its row names the way that it sits in.
-use Rattle.std.proofs.Common.{◌≡◌, ℕ, zero, suc, ◌+◌, ◌<◌, ◌≤◌, Bool, true, false, cond, ◌||◌, eqb, ltb, ◌⊎◌, List, [], ◌∷◌, map, length, get_or, drop, sym, refl, ap, ◌∙◌, subst, inl, inr, arith}
+use Rattle.std.proofs.Common.{◌≡◌, ℕ, zero, suc, ◌+◌, ◌<◌, ◌≤◌, Bool, true, false, cond, eqb, ltb, ◌⊎◌, List, [], ◌∷◌, map, length, get_or, drop, sym, refl, ap, ◌∙◌, subst, inr, arith}
 use Rattle.std.proofs.lemmas.List.{length-map}
 use Rattle.std.proofs.lemmas.Bool.Decides.{nat_tests}
-use Rattle.std.proofs.lemmas.Bool.{eqb-true, eq-eqb, cases_lt, or_parts, both_ways, false≢true}
+use Rattle.std.proofs.lemmas.Bool.{both_ways, false≢true}
 use Rattle.histories.specs.Rule.{held, hit, verdicts}
 use Rattle.histories.specs.Histories.{latest, Distinct, Legal, turn_hits}
 use Rattle.histories.specs.Schedule.{Row, without, resident, seat, lowest, way, holds, rows_with, rows, SeatedTurn, Seated, WaysFit}
@@ -32,7 +32,7 @@ distinct_upto (suc n) = (let k = held_upto n n in grind (arith, nat_tests), dist
 length_upto : (n : ℕ) → length (upto n) ≡ n
 unfolding upto
 length_upto zero = refl
-length_upto (suc n) = ap suc (length_upto n)
+length_upto (suc n) = grind (arith, length_upto n)
 
 -- n ways that are all taken are taken by n lines
 pigeon : (n : ℕ) (ways : List ℕ) → ((v : ℕ) → v < n → held v ways ≡ true) → n ≤ length ways
@@ -45,39 +45,18 @@ pigeon n ways h = omega (arith, within all ways (upto n) (distinct_upto n) taken
 lowest_free : (n w : ℕ) (ways : List ℕ) → ((lowest n w ways < w + n) × (held (lowest n w ways) ways ≡ false)) ⊎ ((v : ℕ) → w ≤ v → v < w + n → held v ways ≡ true)
 unfolding lowest
 lowest_free zero w ways = inr (λ v a b. absurd (omega arith))
-lowest_free (suc n) w ways = go (held w ways) refl (lowest_free n (suc w) ways)
-  where
-    go : (b : Bool) → held w ways ≡ b → ((lowest n (suc w) ways < suc w + n) × (held (lowest n (suc w) ways) ways ≡ false)) ⊎ ((v : ℕ) → suc w ≤ v → v < suc w + n → held v ways ≡ true)
-        → ((cond b (lowest n (suc w) ways) w < w + suc n) × (held (cond b (lowest n (suc w) ways) w) ways ≡ false)) ⊎ ((v : ℕ) → w ≤ v → v < w + suc n → held v ways ≡ true)
-    go false e r = inl (omega arith, e)
-    go true e (inl r) = inl (omega (arith, r.0), r.1)
-    go true e (inr r) = inr each
-      where
-        each : (v : ℕ) → w ≤ v → v < w + suc n → held v ways ≡ true
-        each v a b = one (cases_lt w v)
-          where
-            one : (w < v) ⊎ (v ≤ w) → held v ways ≡ true
-            one (inl k) = r v k (omega arith)
-            one (inr k) = subst (λ u. held u ways ≡ true) (omega arith) e
+lowest_free (suc n) w ways = grind (arith, nat_tests, lowest_free n (suc w) ways)
 
 lowest_fits : (W : ℕ) (ways : List ℕ) → length ways < W → (lowest W 0 ways < W) × (held (lowest W 0 ways) ways ≡ false)
-lowest_fits W ways h = go (lowest_free W 0 ways)
-  where
-    go : ((lowest W 0 ways < 0 + W) × (held (lowest W 0 ways) ways ≡ false)) ⊎ ((v : ℕ) → 0 ≤ v → v < 0 + W → held v ways ≡ true) → (lowest W 0 ways < W) × (held (lowest W 0 ways) ways ≡ false)
-    go (inl r) = (omega (arith, r.0), r.1)
-    go (inr r) = absurd (omega (arith, pigeon W ways (λ v k. r v (omega arith) (omega arith))))
+lowest_fits W ways h = grind (arith, lowest_free W 0 ways, pigeon W ways)
 
 held_map : (f : ℕ → ℕ) (y : ℕ) (ys : List ℕ) → held y ys ≡ true → held (f y) (map f ys) ≡ true
 held_map f y [] e = absurd (false≢true e)
-held_map f y (z ∷ zs) e = go (eqb y z) refl e (held_map f y zs)
-  where
-    go : (b : Bool) → eqb y z ≡ b → (b || held y zs) ≡ true → (held y zs ≡ true → held (f y) (map f zs) ≡ true) → (eqb (f y) (f z) || held (f y) (map f zs)) ≡ true
-    go true k e rec = let m = eq-eqb (f y) (f z) (ap f (eqb-true y z k)) in grind arith
-    go false k e rec = let m = rec e in grind arith
+held_map f y (z ∷ zs) e = grind (arith, nat_tests, held_map f y zs)
 
 without_absent : (x : ℕ) (c : List ℕ) → held x c ≡ false → without x c ≡ c
 without_absent x [] e = refl
-without_absent x (z ∷ zs) e = let k = or_parts (eqb x z) (held x zs) e in rw (k.0, without_absent x zs k.1)
+without_absent x (z ∷ zs) e = grind (arith, without_absent x zs)
 
 -- ---- one turn
 
@@ -116,11 +95,7 @@ row W t v h rs = record { line = t; verdict = v; hold = h; way = way W v h t rs 
 -- a line that is held after a row was touched and is kept, or was held before
 kept : (W t : ℕ) (v h : Bool) (rs : List Row) (y : ℕ) → held y (latest (resident (row W t v h rs ∷ rs))) ≡ true → ((y ≡ t) × (h ≡ true)) ⊎ ((eqb y t ≡ false) × (held y (latest (resident rs)) ≡ true))
 unfolding resident
-kept W t v h rs y e = go (eqb y t) refl (sym (held_read h t y (latest (resident rs))) ∙ e)
-  where
-    go : (b : Bool) → eqb y t ≡ b → cond b h (held y (latest (resident rs))) ≡ true → ((y ≡ t) × (h ≡ true)) ⊎ ((eqb y t ≡ false) × (held y (latest (resident rs)) ≡ true))
-    go true k c = inl (eqb-true y t k, c)
-    go false k c = inr (k, c)
+kept W t v h rs y e = grind (arith, nat_tests, held_read h t y (latest (resident rs)))
 
 seated_turn : (W t : ℕ) (v h : Bool) (rs : List Row) → held t (latest (resident rs)) ≡ v → length (read_row h t (latest (resident rs))) ≤ W → Sitting W rs → SeatedTurn W (row W t v h rs) rs
 unfolding seat
@@ -138,34 +113,20 @@ seated_turn W t v h rs e n s = record { below = below; alone = alone; keeps = ke
     at : h ≡ true → Placed W t rs w
     at k = subst (λ b. Placed W t rs (way W v b t rs)) (sym k) (placed W t v rs e (subst (λ b. length (read_row b t L) ≤ W) k n) s)
 
-    here : (y : ℕ) → y ≡ t → cond (eqb y t) w (seat y rs) ≡ w
-    here y k = rw (eq-eqb y t k)
-
-    other : (y : ℕ) → eqb y t ≡ false → cond (eqb y t) w (seat y rs) ≡ seat y rs
-    other y k = rw k
-
     below : (y : ℕ) → held y (latest (resident (r ∷ rs))) ≡ true → cond (eqb y t) w (seat y rs) < W
-    below y c = go (kept W t v h rs y c)
-      where
-        go : ((y ≡ t) × (h ≡ true)) ⊎ ((eqb y t ≡ false) × (held y L ≡ true)) → cond (eqb y t) w (seat y rs) < W
-        go (inl k) = omega (arith, here y k.0, (at k.1).inside)
-        go (inr k) = omega (arith, other y k.0, s.below y k.1)
+    below y c =
+        let inside : h ≡ true → w < W = λ k. (at k).inside in
+        grind (arith, nat_tests, kept W t v h rs y c, inside, s.below y)
 
     alone : (y z : ℕ) → held y (latest (resident (r ∷ rs))) ≡ true → held z (latest (resident (r ∷ rs))) ≡ true → cond (eqb y t) w (seat y rs) ≡ cond (eqb z t) w (seat z rs) → y ≡ z
-    alone y z c d q = go (kept W t v h rs y c) (kept W t v h rs z d)
-      where
-        go : ((y ≡ t) × (h ≡ true)) ⊎ ((eqb y t ≡ false) × (held y L ≡ true)) → ((z ≡ t) × (h ≡ true)) ⊎ ((eqb z t ≡ false) × (held z L ≡ true)) → y ≡ z
-        go (inl k) (inl m) = k.0 ∙ sym m.0
-        go (inl k) (inr m) = k.0 ∙ sym ((at k.1).free z m.1 (sym (other z m.0) ∙ sym q ∙ here y k.0))
-        go (inr k) (inl m) = (at m.1).free y k.1 (sym (other y k.0) ∙ q ∙ here z m.0) ∙ sym m.0
-        go (inr k) (inr m) = s.alone y z k.1 m.1 (sym (other y k.0) ∙ q ∙ other z m.0)
+    alone y z c d q =
+        let free : h ≡ true → (z : ℕ) → held z L ≡ true → seat z rs ≡ w → z ≡ t = λ k. (at k).free in
+        grind (arith, nat_tests, kept W t v h rs y c, kept W t v h rs z d, free, s.alone y z)
 
     keeps : (y : ℕ) → held y L ≡ true → held y (latest (resident (r ∷ rs))) ≡ true → cond (eqb y t) w (seat y rs) ≡ seat y rs
-    keeps y b c = go (kept W t v h rs y c)
-      where
-        go : ((y ≡ t) × (h ≡ true)) ⊎ ((eqb y t ≡ false) × (held y L ≡ true)) → cond (eqb y t) w (seat y rs) ≡ seat y rs
-        go (inl k) = here y k.0 ∙ (at k.1).stays (subst (λ x. held x L ≡ true) k.0 b) ∙ ap (λ x. seat x rs) (sym k.0)
-        go (inr k) = other y k.0
+    keeps y b c =
+        let stays : h ≡ true → held t L ≡ true → w ≡ seat t rs = λ k. (at k).stays in
+        grind (arith, nat_tests, kept W t v h rs y c, stays)
 
 -- ---- every turn
 

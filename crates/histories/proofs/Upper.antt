@@ -5,9 +5,9 @@
 -- At a touch of x that the history has as a hit, h rises by one, and k falls by one at each gap since x's last touch, where x counted.
 -- The rule's hit raises the same gaps, and H with them. At the rule's miss one of these gaps is full, so  h + k ≤ H  there;
 -- its k counts x and every line that counts at an older gap, which pays for the history's hit at each of those.
-use Rattle.std.proofs.Common.{◌≡◌, ℕ, suc, ◌+◌, ◌<◌, ◌≤◌, Bool, true, false, cond, ◌&&◌, ◌||◌, eqb, ltb, ◌⊎◌, List, [], ◌∷◌, refl, inl, inr, arith}
+use Rattle.std.proofs.Common.{◌≡◌, ℕ, ◌+◌, ◌≤◌, Bool, false, cond, eqb, ◌⊎◌, List, [], ◌∷◌, refl, arith}
 use Rattle.std.proofs.lemmas.Bool.Decides.{nat_tests}
-use Rattle.std.proofs.lemmas.Bool.{ltb-true, ltb-false, eq-eqb}
+use Rattle.std.proofs.lemmas.Bool.{eq-eqb}
 use Rattle.histories.specs.Rule.{tally, held, fits, raise, occupancies, verdicts, hits}
 use Rattle.histories.specs.Histories.{latest, LegalTurn, Legal, turn_hits, earned, Bounded}
 use Rattle.histories.proofs.Counts.{count, all, less, only, count_two, count_mono, count_length, tally_one, held_count, within}
@@ -24,19 +24,16 @@ Invariant W h H p C (t ∷ ts) (o ∷ os) = (o ≤ W) × (o + h + count p C ≤ 
 keep : (W h h' H H' m : ℕ) (p q : ℕ → Bool) (C ts os : List ℕ) → ((y : ℕ) → tally (q y) ≤ tally (p y)) → count q C ≤ m → (h' + H ≤ h + H') ⊎ (h' + m ≤ H') → Invariant W h H p C ts os → Invariant W h' H' q C ts os
 keep W h h' H H' m p q C [] os s n k f = omega (arith, count_mono q p C s)
 keep W h h' H H' m p q C (t ∷ ts) [] s n k f = f
-keep W h h' H H' m p q C (t ∷ ts) (o ∷ os) s n k f = (f.0, omega (arith, count_mono q p C s), keep W h h' H H' m (less p t) (less q t) C ts os one (omega (arith, count_mono (less q t) q C two)) k f.2)
-  where
-    one : (y : ℕ) → tally (less q t y) ≤ tally (less p t y)
-    one y = let k = s y in grind arith
-
-    two : (y : ℕ) → tally (less q t y) ≤ tally (q y)
-    two y = grind arith
+keep W h h' H H' m p q C (t ∷ ts) (o ∷ os) s n k f =
+    let one : (y : ℕ) → tally (less q t y) ≤ tally (less p t y) = λ y. grind (arith, s y) in
+    let two : (y : ℕ) → tally (less q t y) ≤ tally (q y) = λ y. grind arith in
+    grind (arith, count_mono q p C s, count_mono (less q t) q C two, keep W h h' H H' m (less p t) (less q t) C ts os one)
 
 -- the same with D, what is held after the turn, in place of C
 other : (W h H x : ℕ) (p : ℕ → Bool) (C D ts os : List ℕ) → ((r : ℕ → Bool) → r x ≡ false → count r D ≤ count r C) → p x ≡ false → Invariant W h H p C ts os → Invariant W h H p D ts os
 other W h H x p C D [] os s e f = omega (arith, s p e)
 other W h H x p C D (t ∷ ts) [] s e f = f
-other W h H x p C D (t ∷ ts) (o ∷ os) s e f = (f.0, omega (arith, s p e), other W h H x (less p t) C D ts os s (rw e) f.2)
+other W h H x p C D (t ∷ ts) (o ∷ os) s e f = grind (arith, s p e, other W h H x (less p t) C D ts os s)
 
 -- after a touch with the rule's verdict b
 Stepped : ℕ → ℕ → ℕ → (ℕ → Bool) → List ℕ → List ℕ → List ℕ → List ℕ → Bool → Type 0
@@ -48,51 +45,23 @@ step : (W h H a x : ℕ) (p q : ℕ → Bool) (C ts os : List ℕ) → a ≤ 1 �
 unfolding fits raise Stepped
 step W h H a x p q C [] os a1 hH ac s f = (omega (arith, count_two q (only p x) p C s), omega (arith, count_two q (only p x) p C s))
 step W h H a x p q C (t ∷ ts) [] a1 hH ac s f = absurd f
-step W h H a x p q C (t ∷ ts) (o ∷ os) a1 hH ac s f = go (ltb o W) (eqb x t) refl refl (step W h H a x (less p t) (less q t) C ts os a1 hH)
-  where
-    below : (y : ℕ) → tally (less q t y) ≤ tally (less p t y)
-    below y = let k = s y in grind arith
-
-    apart : (y : ℕ) → tally (less q t y) + tally (only (less p t) x y) ≤ tally (less p t y)
-    apart y = let k = s y in grind arith
-
-    drops : (y : ℕ) → tally (less q t y) ≤ tally (q y)
-    drops y = grind arith
-
-    stays : eqb x t ≡ false → (y : ℕ) → tally (only p x y) ≤ tally (only (less p t) x y)
-    stays e y = grind (arith, nat_tests)
-
-    go : (l b : Bool) → ltb o W ≡ l → eqb x t ≡ b
-        → (a ≤ count (only (less p t) x) C → ((y : ℕ) → tally (less q t y) + tally (only (less p t) x y) ≤ tally (less p t y)) → Invariant W h H (less p t) C ts os → Stepped W (a + h) H (less q t) C ts os (raise x ts os) (fits W x ts os))
-        → Stepped W (a + h) H q C (t ∷ ts) (o ∷ os) (suc o ∷ cond b os (raise x ts os)) (l && (b || fits W x ts os))
-    go false b l e rec =
-        let m = ltb-false o W l in
-        let c = count_two q (only p x) p C s in
-        (omega arith, (f.0, omega arith, keep W h (a + h) H (0 + H) (count q C) (less p t) (less q t) C ts os below (count_mono (less q t) q C drops) (inr (omega arith)) f.2))
-    go true true l e rec =
-        let m = ltb-true o W l in
-        let c = count_two q (only p x) p C s in
-        (omega arith, (m, omega arith, keep W h (a + h) H (1 + H) (count q C) (less p t) (less q t) C ts os below (count_mono (less q t) q C drops) (inl (omega arith)) f.2))
-    go true false l e rec = front (fits W x ts os) (rec (omega (arith, count_mono (only p x) (only (less p t) x) C (stays e))) apart f.2)
-      where
-        m : o < W
-        m = ltb-true o W l
-
-        c : count q C + count (only p x) C ≤ count p C
-        c = count_two q (only p x) p C s
-
-        front : (b : Bool) → Stepped W (a + h) H (less q t) C ts os (raise x ts os) b → Stepped W (a + h) H q C (t ∷ ts) (o ∷ os) (suc o ∷ raise x ts os) b
-        front true k = (k.0, (m, omega (arith, c), k.1))
-        front false k = (k.0, (f.0, omega (arith, c), k.1))
+step W h H a x p q C (t ∷ ts) (o ∷ os) a1 hH ac s f =
+    let below : (y : ℕ) → tally (less q t y) ≤ tally (less p t y) = λ y. grind (arith, s y) in
+    let apart : (y : ℕ) → tally (less q t y) + tally (only (less p t) x y) ≤ tally (less p t y) = λ y. grind (arith, s y) in
+    let drops : (y : ℕ) → tally (less q t y) ≤ tally (q y) = λ y. grind arith in
+    let stays : eqb x t ≡ false → (y : ℕ) → tally (only p x y) ≤ tally (only (less p t) x y) = λ e y. grind (arith, nat_tests, e) in
+    let c = count_two q (only p x) p C s in
+    let d = count_mono (less q t) q C drops in
+    let fewer : eqb x t ≡ false → count (only p x) C ≤ count (only (less p t) x) C = λ e. count_mono (only p x) (only (less p t) x) C (stays e) in
+    let paid = λ (H' : ℕ) (k : (a + h + H ≤ h + H') ⊎ (a + h + count q C ≤ H')). keep W h (a + h) H H' (count q C) (less p t) (less q t) C ts os below d k f.2 in
+    let rec : a ≤ count (only (less p t) x) C → Stepped W (a + h) H (less q t) C ts os (raise x ts os) (fits W x ts os) = λ k. step W h H a x (less p t) (less q t) C ts os a1 hH k apart f.2 in
+    grind (arith, nat_tests, fewer, paid, rec)
 
 -- ---- the whole history
 
 -- but for x, no more lines are held after the turn than before
 fresh : (W x : ℕ) (C D : List ℕ) → LegalTurn W x D C → (r : ℕ → Bool) → r x ≡ false → count r D ≤ count r C
-fresh W x C D t r e = within r C D t.distinct one
-  where
-    one : (y : ℕ) → held y D ≡ true → r y ≡ true → held y C ≡ true
-    one y h k = let m = t.kept y h in grind (arith, nat_tests)
+fresh W x C D t r e = within r C D t.distinct (λ y h k. grind (arith, nat_tests, t.kept y h))
 
 Whole : ℕ → List ℕ → List (List ℕ) → Type 0
 Whole W ts cs = (earned ts cs ≤ hits W ts) × Invariant W (earned ts cs) (hits W ts) all (latest cs) ts (occupancies W ts)
@@ -104,20 +73,12 @@ whole W [] (c ∷ cs) l = absurd l
 whole W (x ∷ ts) [] l = absurd l
 whole W (x ∷ ts) (D ∷ cs) l =
     let k = whole W ts cs l.1 in
-    go (step W (earned ts cs) (hits W ts) (tally (held x C)) x all (less all x) C ts (occupancies W ts) (tally_one (held x C)) k.0 (held_count x C) apart k.1)
-  where
-    C : List ℕ
-    C = latest cs
-
-    g : Bool
-    g = fits W x ts (occupancies W ts)
-
-    apart : (y : ℕ) → tally (less all x y) + tally (only all x y) ≤ tally (all y)
-    apart y = grind arith
-
-    go : Stepped W (tally (held x C) + earned ts cs) (hits W ts) (less all x) C ts (occupancies W ts) (raise x ts (occupancies W ts)) g → Whole W (x ∷ ts) (D ∷ cs)
-    go s =
-        (s.0, (omega arith, omega (arith, l.0.small, count_length all D), other W (tally (held x C) + earned ts cs) (tally g + hits W ts) x (less all x) C D ts (cond g (raise x ts (occupancies W ts)) (occupancies W ts)) (fresh W x C D l.0) (rw (eq-eqb x x refl)) s.1))
+    let C = latest cs in
+    let s = step W (earned ts cs) (hits W ts) (tally (held x C)) x all (less all x) C ts (occupancies W ts) (tally_one (held x C)) k.0 (held_count x C) (λ y. grind arith) k.1 in
+    let turned = raise x ts (occupancies W ts) in
+    let small = l.0.small in
+    let few = count_length all D in
+    (s.0, (omega arith, omega (arith, few), other W _ _ x (less all x) C D ts (cond (fits W x ts (occupancies W ts)) turned (occupancies W ts)) (fresh W x C D l.0) (rw (eq-eqb x x refl)) s.1))
 
 pub upper : Bounded
 unfolding Whole

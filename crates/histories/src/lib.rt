@@ -13,11 +13,13 @@ pub fn rule_by_index()
 {}
 
 /// No legal history has more hits than the rule counts.
+#[tactic(auto, using(crate::proofs::Upper::upper))]
 pub fn bounded()
     ensures { Bounded }
 {}
 
 /// The schedule holds a line exactly from a touch to its next where that next touch is a hit.
+#[tactic(auto, using(crate::proofs::Keeping::kept_for_hits))]
 pub fn kept_for_hits()
     ensures { KeptForHits }
 {}
@@ -33,6 +35,7 @@ pub fn rises()
 {}
 
 /// After each turn, the lines that the rows hold sit in ways of the set, one line to a way, and a line keeps its way while it is held.
+#[tactic(auto, using(crate::proofs::Seats::ways_fit))]
 pub fn ways_fit()
     ensures { WaysFit }
 {}

@@ -1,4 +1,3 @@
 pub mod Walks
-pub mod Props
 pub mod Sets
 pub mod Opens

@@ -1,15 +1,15 @@
 -- The chains of a set before its first turn.
-use Rattle.std.proofs.Common.{ℕ, ◌+◌, ◌*◌, ◌<◌, ◌≤◌, List, length, arith}
+use Rattle.std.proofs.Common.{ℕ, ◌+◌, ◌*◌, ◌<◌, ◌≤◌, List, Option, None, length, arith}
 use Rattle.parts.specs.Equal.{part, Filled}
 use Rattle.parts.proofs.Writes.{inside, length_part, get_d_part}
 use Rattle.lastuse.specs.declared.Entry.{Entry}
 use Rattle.lastuse.specs.Chains.{Leads, Chained}
 
-leads_none : (es : List Entry) (m h : ℕ) → Leads es m h 0 0
-leads_none es m h = record { within = omega arith; past = λ k a b _. let z : ⊥ = omega arith in z; hits = λ p. let z : ⊥ = omega arith in absurd z }
+leads_none : (es : List Entry) (m h : ℕ) → Leads es m h 0 None
+leads_none es m h = λ k b _. let z : ⊥ = omega arith in z
 
--- where every head is 0 no set has an entry, whatever the memory of the entries holds
-pub nothing_chained : (sets chains room j : ℕ) (hs : List ℕ) (es : List Entry) → j < sets → 0 < chains → sets * chains ≤ length hs → Filled 0 (sets * chains) hs
+-- where every head is None no set has an entry, whatever the memory of the entries holds
+pub nothing_chained : (sets chains room j : ℕ) (hs : List (Option ℕ)) (es : List Entry) → j < sets → 0 < chains → sets * chains ≤ length hs → Filled None (sets * chains) hs
     → Chained (part chains j hs) (part room j es) 0
 nothing_chained sets chains room j hs es b some wide f =
     let within = inside chains sets j (length hs) b wide in
@@ -18,6 +18,6 @@ nothing_chained sets chains room j hs es b some wide f =
     record {
       room = omega arith;
       some = omega arith;
-      heads = λ h l. rw (get_d_part chains j h hs 0 (omega arith), f (j * chains + h) 0 (omega arith)) (leads_none (part room j es) (length (part chains j hs)) h);
+      heads = λ h l. rw (get_d_part chains j h hs None (omega arith), f (j * chains + h) None (omega arith)) (leads_none (part room j es) (length (part chains j hs)) h);
       nexts = λ k l. let q : ⊥ = omega arith in absurd q;
     }

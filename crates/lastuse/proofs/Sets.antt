@@ -1,5 +1,5 @@
 -- A turn noted in the chains of one of several sets.
-use Rattle.std.proofs.Common.{◌≡◌, ℕ, ◌+◌, ◌*◌, ◌<◌, ◌≤◌, List, length, get_or, set, Some, None, sym, refl, ap, ◌∙◌, arith}
+use Rattle.std.proofs.Common.{◌≡◌, ℕ, ◌+◌, ◌*◌, ◌<◌, ◌≤◌, List, length, get_or, set, Option, Some, None, sym, refl, ap, ◌∙◌, arith}
 use Rattle.std.proofs.lemmas.Bool.{eq-eqb, ne_eqb}
 use Rattle.std.proofs.lemmas.List.{length-set}
 use Rattle.parts.specs.Equal.{part}
@@ -9,7 +9,7 @@ use Rattle.lastuse.specs.Chains.{Chained, Latest, Absent, chain_of, at}
 use Rattle.lastuse.specs.Sets.{Mapped}
 use Rattle.lastuse.proofs.Walks.{set_at, push_at, look_latest, look_absent}
 
-module _ (chains room sets : ℕ) (hs : List ℕ) (es : List Entry) (j x turn used : ℕ) (b : j < sets) (wide : j * chains + chains ≤ length hs) (deep : j * room + room ≤ length es)
+module _ (chains room sets : ℕ) (hs : List (Option ℕ)) (es : List Entry) (j x turn used : ℕ) (b : j < sets) (wide : j * chains + chains ≤ length hs) (deep : j * room + room ≤ length es)
     (c : Chained (part chains j hs) (part room j es) used) where
   -- a line that has an entry: its turn is written there, and no link changes
   pub map_old : (i : ℕ) → used ≤ room → Latest (part room j es) used x i
@@ -37,27 +37,27 @@ module _ (chains room sets : ℕ) (hs : List ℕ) (es : List Entry) (j x turn us
 
   -- a new line: its entry is the next one, it leads to what its head led to, and the head leads to it
   pub map_new : (s : ℕ) → used < room → Absent (part room j es) used x → s ≡ chain_of x chains → s < chains
-      → Mapped chains room sets hs (set hs (j * chains + s) (used + 1)) es
-      (set es (j * room + used) (record { line = record { 0 = x }; last = turn; next = get_or hs (j * chains + s) 0 })) j x turn used None (used + 1)
+      → Mapped chains room sets hs (set hs (j * chains + s) (Some used)) es
+      (set es (j * room + used) (record { line = record { 0 = x }; last = turn; next = get_or hs (j * chains + s) None })) j x turn used None (used + 1)
   map_new s u n s_is s_in =
-      let e : Entry = record { line = record { 0 = x }; last = turn; next = get_or hs (j * chains + s) 0 } in
-      let here = get_d_part chains j s hs 0 s_in in
+      let e : Entry = record { line = record { 0 = x }; last = turn; next = get_or hs (j * chains + s) None } in
+      let here = get_d_part chains j s hs None s_in in
       let many = length_part chains j hs wide in
       let long = length_part room j es deep in
       let p = push_at (part room j es) used x turn s (omega arith) (part chains j hs) (rw many s_is) (omega arith) c in
-      let mine : part room j (set es (j * room + used) e) ≡ set (part room j es) used (record { line = record { 0 = x }; last = turn; next = get_or (part chains j hs) s 0 }) =
+      let mine : part room j (set es (j * room + used) e) ≡ set (part room j es) used (record { line = record { 0 = x }; last = turn; next = get_or (part chains j hs) s None }) =
       part_set room j j used es e u ∙ rw (eq-eqb j j refl, here) in
-      let mine_heads : part chains j (set hs (j * chains + s) (used + 1)) ≡ set (part chains j hs) s (used + 1) =
-      part_set chains j j s hs (used + 1) s_in ∙ rw (eq-eqb j j refl) in
+      let mine_heads : part chains j (set hs (j * chains + s) (Some used)) ≡ set (part chains j hs) s (Some used) =
+      part_set chains j j s hs (Some used) s_in ∙ rw (eq-eqb j j refl) in
       record {
         chained = rw (mine, mine_heads) p.0;
         looks = rw mine p.1;
         before = sym (look_absent (part room j es) used x n);
         grows = omega arith;
-        heads = λ k d. part_set chains j k s hs (used + 1) s_in ∙ rw (ne_eqb k j d);
+        heads = λ k d. part_set chains j k s hs (Some used) s_in ∙ rw (ne_eqb k j d);
         entries = λ k d. part_set room j k used es e u ∙ rw (ne_eqb k j d);
-        heads_past = past_set chains sets j s hs (used + 1) b s_in;
+        heads_past = past_set chains sets j s hs (Some used) b s_in;
         entries_past = past_set room sets j used es e b u;
-        wide = length-set hs (j * chains + s) (used + 1);
+        wide = length-set hs (j * chains + s) (Some used);
         deep = length-set es (j * room + used) e;
       }

@@ -1,5 +1,5 @@
 -- The last turn of each line of a set, kept in chains of entries. A line is its number here.
-use Rattle.std.specs.Prelude.{◌≡◌, ℕ, zero, suc, ◌-◌, ◌*◌, ◌/◌, ◌%◌, ◌^◌, ◌<◌, ◌≤◌, cond, List, length, Some, None, Option, ◌==◌, ◌≢◌, bit_and, slice_index, slice_index_or}
+use Rattle.std.specs.Prelude.{◌≡◌, ℕ, zero, suc, ◌-◌, ◌*◌, ◌/◌, ◌%◌, ◌^◌, ◌<◌, ◌≤◌, cond, List, length, Some, None, Option, ◌==◌, ◌≢◌, MatchOption, bit_and, slice_index_or}
 use Rattle.lastuse.specs.declared.Entry.{Entry}
 
 -- the chain of line x, of n chains: what follows holds of any function below n
@@ -7,7 +7,7 @@ unfoldable pub chain_of : ℕ → ℕ → ℕ
 chain_of x n = bit_and (x * 0x9E37_79B9_7F4A_7C15 % 2 ^ 64 / 2 ^ 32) (n - 1)
 
 abbrev pub at : List Entry → ℕ → Entry
-at es i = slice_index_or es i (record { line = record { 0 = 0 }; last = 0; next = 0 })
+at es i = slice_index_or es i (record { line = record { 0 = 0 }; last = 0; next = None })
 
 -- what the first n entries say of line x: the last turn in the latest of them that has it
 abbrev pub look : List Entry → ℕ → ℕ → Option ℕ
@@ -24,15 +24,19 @@ pub record Latest (es : List Entry) (n x i : ℕ) : Type 0 where
   pub here : (at es i).line.0 ≡ x
   pub newer : (k : ℕ) → i < k → k < n → (at es k).line.0 ≢ x
 
--- c, counted from 1, leads to the latest of the first n entries that is in the chain h of m chains; 0 where there is none
-pub record Leads (es : List Entry) (m h n c : ℕ) : Type 0 where
-  pub within : c ≤ n
-  pub past : (k : ℕ) → c ≤ k → k < n → chain_of (at es k).line.0 m ≢ h
-  pub hits : 0 < c → chain_of (at es (c - 1)).line.0 m ≡ h
+-- entry p is in the chain h of m chains, and no later one of the first n is
+pub record LatestIn (es : List Entry) (m h n p : ℕ) : Type 0 where
+  pub within : p < n
+  pub here : chain_of (at es p).line.0 m ≡ h
+  pub newer : (k : ℕ) → p < k → k < n → chain_of (at es k).line.0 m ≢ h
+
+-- the place of the latest of the first n entries that is in the chain h of m chains; None where there is none
+abbrev pub Leads : List Entry → ℕ → ℕ → ℕ → Option ℕ → Type 0
+Leads es m h n o = MatchOption o ((k : ℕ) → k < n → chain_of (at es k).line.0 m ≢ h) (LatestIn es m h n)
 
 -- each head leads to the newest of the first n entries in its chain, and each entry to the one before it
-pub record Chained (hs : List ℕ) (es : List Entry) (n : ℕ) : Type 0 where
+pub record Chained (hs : List (Option ℕ)) (es : List Entry) (n : ℕ) : Type 0 where
   pub room : n ≤ length es
   pub some : 0 < length hs
-  pub heads : (h : ℕ) → h < length hs → Leads es (length hs) h n (slice_index hs h)
+  pub heads : (h : ℕ) → h < length hs → Leads es (length hs) h n (slice_index_or hs h None)
   pub nexts : (k : ℕ) → k < n → Leads es (length hs) (chain_of (at es k).line.0 (length hs)) k (at es k).next

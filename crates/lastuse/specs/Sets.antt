@@ -6,7 +6,7 @@ use Rattle.lastuse.specs.declared.Entry.{Entry}
 use Rattle.lastuse.specs.Chains.{Chained, look}
 
 -- the heads and entries of set j after a turn of line x: it had `used` entries and has `more`, and all else is as it was
-pub record Mapped (chains room sets : ℕ) (hs hs' : List ℕ) (es es' : List Entry) (j x turn used : ℕ) (earlier : Option ℕ) (more : ℕ) : Type 0 where
+pub record Mapped (chains room sets : ℕ) (hs hs' : List (Option ℕ)) (es es' : List Entry) (j x turn used : ℕ) (earlier : Option ℕ) (more : ℕ) : Type 0 where
   pub chained : Chained (part chains j hs') (part room j es') more
   pub looks : look (part room j es') more ≡ update nat_eq (look (part room j es) used) x (Some turn)
   pub before : earlier ≡ look (part room j es) used x

@@ -1,19 +1,8 @@
 -- Lists of which the first elements are all the same.
-use Rattle.std.proofs.Common.{◌≡◌, ℕ, ◌+◌, ◌*◌, ◌<◌, ◌≤◌, List, length, get_or, drop, set, replicate, sym, ap, ◌∙◌, ⊎_elim, arith}
-use Rattle.std.proofs.lemmas.Bool.{cases_eq}
-use Rattle.std.proofs.lemmas.List.{get_or-set_same, get_or-set_other, drop-set-lt, same_lists, get_or-replicate, length-replicate}
+use Rattle.std.proofs.Common.{◌≡◌, ℕ, ◌+◌, ◌*◌, ◌<◌, ◌≤◌, List, length, replicate, sym, ◌∙◌, arith}
+use Rattle.std.proofs.lemmas.List.{same_lists, get_or-replicate, length-replicate}
 use Rattle.parts.specs.Equal.{part, Filled}
 use Rattle.parts.proofs.Writes.{inside, length_part, get_d_part}
-
--- one more, as a loop fills them
-pub filled_more : {X : Type 0} (v : X) (i : ℕ) (xs : List X) → i < length xs → Filled v i xs → Filled v (i + 1) (set xs i v)
-filled_more v i xs l h k d b = ⊎_elim
-    (λ (e : k ≡ i). ap (λ z. get_or (set xs i v) z d) e ∙ get_or-set_same xs i v d l)
-    (λ (n : k ≡ i → ⊥). get_or-set_other xs i k v d n ∙ h k d (omega arith))
-    (cases_eq k i)
-
-pub filled_past : {X : Type 0} (i n : ℕ) (xs : List X) (v : X) → i < n → drop n (set xs i v) ≡ drop n xs
-filled_past i n xs v b = drop-set-lt n xs i v b
 
 -- each part of what is filled
 pub filled_part : {X : Type 0} (w n j : ℕ) (xs : List X) (v : X) → j < n → n * w ≤ length xs → Filled v (n * w) xs → part w j xs ≡ replicate w v

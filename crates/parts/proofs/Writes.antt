@@ -1,9 +1,9 @@
 -- Writes to one part of a list that is cut into parts of equal size.
-use Rattle.std.proofs.Common.{◌≡◌, ℕ, ◌+◌, ◌-◌, ◌*◌, ◌<◌, ◌≤◌, ◌⊎◌, List, length, get_or, take, drop, set, sym, ap, ◌∙◌, ⊎_elim, mul-le-mul_right, arith}
+use Rattle.std.proofs.Common.{◌≡◌, ℕ, ◌+◌, ◌-◌, ◌*◌, ◌<◌, ◌≤◌, List, length, get_or, take, drop, set, sym, ap, ◌∙◌, mul-le-mul_right, arith}
 use lib.Seq.{take-set-lt}
 use Rattle.std.proofs.lemmas.List.{length-append, length-take, length-drop, drop-set-add, drop-set-lt, take-set-le, get_or-take, get_or-drop}
 use Rattle.std.proofs.lemmas.Slice.{between_is, take-put_mid_below, drop-put_mid, between-put_mid}
-use Rattle.std.proofs.lemmas.Bool.{cases_order, eq-eqb, ne_eqb}
+use Rattle.std.proofs.lemmas.Bool.Decides.{nat_tests}
 use Rattle.parts.specs.Equal.{part, put_part, Apart, ApartSet}
 
 pub length_part : {X : Type 0} (w j : ℕ) (xs : List X) → j * w + w ≤ length xs → length (part w j xs) ≡ w
@@ -33,27 +33,20 @@ part_after w j i xs ys h e l =
     ap (take (i * w + w - i * w)) (drop-put_mid (j * w) (j * w + w - j * w) xs ys (i * w) (omega arith) (omega arith) (omega arith))
 
 pub part_put : {X : Type 0} → Apart X
-part_put w j i xs ys h e = ⊎_elim
-    (λ (s : i ≡ j). rw (eq-eqb i j s, s) (part_same w j xs ys h e))
-    (λ (d : (i < j) ⊎ (j < i)). ⊎_elim
-    (λ (l : i < j). rw (ne_eqb i j (omega arith)) (part_before w j i xs ys h l))
-    (λ (l : j < i). rw (ne_eqb i j (omega arith)) (part_after w j i xs ys h e l)) d)
-    (cases_order i j)
+part_put w j i xs ys h e = grind (arith, nat_tests, part_same w j xs ys h e, part_before w j i xs ys h, part_after w j i xs ys h e)
 
 pub part_set : {X : Type 0} → ApartSet X
-part_set w j i k xs v h = ⊎_elim
-    (λ (s : i ≡ j). rw (eq-eqb i j s, s)
-    (ap (take (j * w + w - j * w)) (drop-set-add (j * w) xs k v) ∙ take-set-lt (j * w + w - j * w) (drop (j * w) xs) k v (omega arith)))
-    (λ (d : (i < j) ⊎ (j < i)). ⊎_elim
-    (λ (l : i < j). rw (ne_eqb i j (omega arith))
-    (let a : i * w + w ≤ j * w = inside w j i (j * w) l (omega arith) in
+part_set w j i k xs v h =
+    let same : part w j (set xs (j * w + k) v) ≡ set (part w j xs) k v =
+    ap (take (j * w + w - j * w)) (drop-set-add (j * w) xs k v) ∙ take-set-lt (j * w + w - j * w) (drop (j * w) xs) k v (omega arith) in
+    let before : i < j → part w i (set xs (j * w + k) v) ≡ part w i xs = λ l.
+    let a : i * w + w ≤ j * w = inside w j i (j * w) l (omega arith) in
     between_is (set xs (j * w + k) v) (i * w) (i * w + w)
-    ∙ ap (drop (i * w)) (take-set-le (i * w + w) xs (j * w + k) v (omega arith))
-    ∙ sym (between_is xs (i * w) (i * w + w))))
-    (λ (l : j < i). rw (ne_eqb i j (omega arith))
-    (let a : j * w + w ≤ i * w = inside w i j (i * w) l (omega arith) in
-    ap (take (i * w + w - i * w)) (drop-set-lt (i * w) xs (j * w + k) v (omega arith)))) d)
-    (cases_order i j)
+    ∙ ap (drop (i * w)) (take-set-le (i * w + w) xs (j * w + k) v (omega arith)) ∙ sym (between_is xs (i * w) (i * w + w)) in
+    let after : j < i → part w i (set xs (j * w + k) v) ≡ part w i xs = λ l.
+    let a : j * w + w ≤ i * w = inside w i j (i * w) l (omega arith) in
+    ap (take (i * w + w - i * w)) (drop-set-lt (i * w) xs (j * w + k) v (omega arith)) in
+    grind (arith, nat_tests, same, before, after)
 
 -- what lies past n parts stays, whichever of them is written
 pub past_put : {X : Type 0} (w n j : ℕ) (xs ys : List X) → n * w ≤ length xs → j < n → length ys ≡ w → drop (n * w) (put_part w j xs ys) ≡ drop (n * w) xs

@@ -5,7 +5,8 @@ ghost use Rattle.std.specs.Prelude.{◌≡◌, ◌≤◌, length, drop};
 ghost use Rattle.parts.specs.Equal.{Apart, ApartSet, Filled};
 
 // A write to a part, or to an element of it, changes no other part.
-pub fn parts_stand_apart<X>(_x: &[X])
+#[tactic(auto, using(crate::proofs::Writes::part_put, crate::proofs::Writes::part_set))]
+pub fn parts_stand_apart<X>()
     ensures part { Apart X }
     ensures element { ApartSet X }
 {}
@@ -16,7 +17,11 @@ pub fn fill<X: Copy>(xs: &mut [X], n: usize, v: X)
     ensures filled { Filled v n xs.new }
     ensures past { drop n xs.new ≡ drop n xs.old }
 {
-    for i in 0..n {
-        xs[i] = v;
+    // The library's `fill` asks for a clone that cannot fail, which `Copy` does not say.
+    for x in &mut xs[..n] {
+        *x = v;
     }
 }
+
+#[cfg(test)]
+mod tests;

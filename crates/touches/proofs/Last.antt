@@ -1,6 +1,6 @@
 -- The latest turn of a line, and the rule by it.
-use Rattle.std.proofs.Common.{◌≡◌, ℕ, suc, ◌-◌, ◌<◌, Bool, true, false, cond, ◌&&◌, eqb, ltb, ◌≢◌, ◌⊎◌, List, [], ◌∷◌, ◌++◌, map, length, take, drop, IfSome, Some, None, Option, sym, refl, ◌∙◌, subst, inl, inr, ⊎_elim, arith, MatchOption}
-use Rattle.std.proofs.lemmas.Bool.{cases_eq, eqb-true, eqb-false, eq-eqb, ne_eqb, cond-false}
+use Rattle.std.proofs.Common.{◌≡◌, ℕ, suc, ◌-◌, ◌<◌, false, cond, eqb, ◌≢◌, List, [], ◌∷◌, ◌++◌, map, length, take, drop, IfSome, Some, None, Option, sym, refl, ◌∙◌, inl, inr, arith, MatchOption}
+use Rattle.std.proofs.lemmas.Bool.Decides.{nat_tests}
 use Rattle.histories.specs.Rule.{fits, raise, at_turn}
 use Rattle.histories.proofs.Index.{at_newest, at_older, Where, where_is, last_older}
 use Rattle.touches.specs.Turns.{latest_turn, Earlier, below, TurnsFound}
@@ -17,51 +17,31 @@ earlier_older x t ts (Some p) n h =
 
 pub found_turn : TurnsFound
 found_turn [] x = λ p l. omega (arith, l.past)
-found_turn (t ∷ ts) x = go (eqb x t) refl (found_turn ts x)
-  where
-    go : (b : Bool) → eqb x t ≡ b → Earlier ts x (latest_turn ts x) → Earlier (t ∷ ts) x (cond b (Some (length ts)) (latest_turn ts x))
-    go true e rec = record { past = omega arith; here = at_newest 0 t ts ∙ sym (eqb-true x t e); since = λ i a b. absurd (omega arith) }
-    go false e rec = earlier_older x t ts (latest_turn ts x) (eqb-false x t e) rec
+found_turn (t ∷ ts) x = grind (arith, nat_tests, at_newest 0 t ts, earlier_older x t ts (latest_turn ts x), found_turn ts x)
 
 -- ---- it lies before the present turn
 abbrev pub Before : List ℕ → Option ℕ → Type 0
 Before ts o = IfSome o (λ p. p < length ts)
 
-before_more : (t : ℕ) (ts : List ℕ) (o : Option ℕ) → Before ts o → Before (t ∷ ts) o
-before_more t ts None b = tt
-before_more t ts (Some p) b = omega arith
-
 pub before : (ts : List ℕ) (x : ℕ) → Before ts (latest_turn ts x)
 before [] x = tt
-before (t ∷ ts) x = go (eqb x t) (before ts x)
+before (t ∷ ts) x = before_more t x ts (latest_turn ts x) (before ts x)
   where
-    go : (b : Bool) → Before ts (latest_turn ts x) → Before (t ∷ ts) (cond b (Some (length ts)) (latest_turn ts x))
-    go true h = omega arith
-    go false h = before_more t ts (latest_turn ts x) h
+    before_more : (t x : ℕ) (ts : List ℕ) (o : Option ℕ) → Before ts o → Before (t ∷ ts) (cond (eqb x t) (Some (length ts)) o)
+    before_more t x ts o h = grind (arith, nat_tests)
 
 -- ---- the rule by the latest turn: of the gaps, the newest first, those since it are the front
 abbrev pub ByLast : ℕ → ℕ → List ℕ → List ℕ → Option ℕ → Type 0
 ByLast W x ts os o = MatchOption o (fits W x ts os ≡ false)
     (λ p. (fits W x ts os ≡ below W (take (length ts - p) os)) × (raise x ts os ≡ map suc (take (length ts - p) os) ++ drop (length ts - p) os))
 
-and_false : (b : Bool) → (b && false) ≡ false
-and_false true = refl
-and_false false = refl
-
 by_older : (W x t : ℕ) (ts : List ℕ) (o : ℕ) (os : List ℕ) (l : Option ℕ) → x ≢ t → Before ts l → ByLast W x ts os l → ByLast W x (t ∷ ts) (o ∷ os) l
 unfolding fits raise
-by_older W x t ts o os None ne s r = rw (ne_eqb x t ne, r) (and_false (ltb o W))
-by_older W x t ts o os (Some p) ne s r =
-    let e : length (t ∷ ts) - p ≡ suc (length ts - p) = omega arith in
-    (rw (e, ne_eqb x t ne, r.0), rw (e, ne_eqb x t ne, r.1))
+by_older W x t ts o os None ne s r = grind (arith, nat_tests)
+by_older W x t ts o os (Some p) ne s r = let e : length (t ∷ ts) - p ≡ suc (length ts - p) = omega arith in grind (arith, nat_tests)
 
 pub by_last : (W x : ℕ) (ts os : List ℕ) → length os ≡ length ts → ByLast W x ts os (latest_turn ts x)
 unfolding fits raise
 by_last W x [] os e = refl
 by_last W x (t ∷ ts) [] e = let z : ⊥ = omega arith in absurd z
-by_last W x (t ∷ ts) (o ∷ os) e = go (by_last W x ts os (omega arith)) (cases_eq x t)
-  where
-    go : ByLast W x ts os (latest_turn ts x) → (x ≡ t) ⊎ (x ≡ t → ⊥) → ByLast W x (t ∷ ts) (o ∷ os) (latest_turn (t ∷ ts) x)
-    go r d = ⊎_elim
-        (λ (q : x ≡ t). let k : length (t ∷ ts) - length ts ≡ 1 = omega arith in rw (eq-eqb x t q, k) (refl, refl))
-        (λ (n : x ≡ t → ⊥). subst (ByLast W x (t ∷ ts) (o ∷ os)) (sym (cond-false (eqb x t) (Some (length ts)) (latest_turn ts x) (ne_eqb x t n))) (by_older W x t ts o os (latest_turn ts x) n (before ts x) r)) d
+by_last W x (t ∷ ts) (o ∷ os) e = let k : length (t ∷ ts) - length ts ≡ 1 = omega arith in grind (arith, nat_tests, by_last W x ts os, by_older W x t ts o os (latest_turn ts x), before ts x)

@@ -1,11 +1,11 @@
 -- The peak and the load of a list of gaps, and gaps that stay low.
-use Rattle.std.proofs.Common.{◌≡◌, ℕ, zero, suc, ◌-◌, ◌<◌, ◌≤◌, max, Bool, true, ◌&&◌, ltb, List, [], ◌∷◌, length, drop, Some, None, sum, Option, sym, refl, ap, ◌∙◌, subst, ⊎_elim, arith}
-use Rattle.std.specs.List.{between, ContainsAt as Has, AllByRecursion}
-use Rattle.std.proofs.ByRecursion.{All-weaker}
-use Rattle.std.proofs.lemmas.List.{take_all, length-drop}
+use Rattle.std.proofs.Common.{◌≡◌, ℕ, zero, suc, ◌<◌, ◌≤◌, max, Bool, true, ◌&&◌, ltb, List, [], ◌∷◌, length, drop, Some, None, sum, Option, sym, refl, ap, ◌∙◌, subst, ⊎_elim, arith}
+use Rattle.std.specs.List.{between, Contains}
+use Rattle.std.proofs.lemmas.List.Elements.{Contains-append_right}
 use Rattle.std.proofs.lemmas.List.Sums.{sum_by-cons}
-use Rattle.std.proofs.lemmas.Bool.{ltb-true, and_parts, cases_lt}
+use Rattle.std.proofs.lemmas.Bool.{cases_lt}
 use Rattle.std.proofs.lemmas.Bool.Decides.{nat_tests}
+use Rattle.std.proofs.lemmas.Grind.{common_steps}
 use Rattle.summaries.specs.Algebra.{Within, summary}
 use Rattle.summaries.specs.Kinds.{higher, peak, load, both}
 use Rattle.summaries.specs.Stretches.{bump}
@@ -20,15 +20,15 @@ highest_more : (g : ℕ) (gs : List ℕ) → highest (g ∷ gs) ≡ higher (Some
 highest_more g gs = ap (λ (p : Peak). higher p.highest (highest gs)) (peak_ups g 0) ∙ ap (λ n. higher (Some n) (highest gs)) (omega arith)
 
 -- ---- the peak is the highest
-has_later : (g m : ℕ) (gs : List ℕ) → Has gs m → Has (g ∷ gs) m
-has_later g m gs h = (suc h.0, omega (arith, h.1), h.2)
+has_higher : (g m : ℕ) (gs : List ℕ) → Contains gs m → Contains (g ∷ gs) (max g m)
+has_higher g m gs h = ⊎_elim
+    (λ (l : g < m). let e : max g m ≡ m = omega arith in rw e (Contains-append_right (g ∷ []) gs m h))
+    (λ (l : m ≤ g). let e : max g m ≡ g = omega arith in rw e (0, omega arith, refl))
+    (cases_lt g m)
 
 highest_step : (g : ℕ) (gs : List ℕ) (o : Option ℕ) → Highest gs o → Highest (g ∷ gs) (higher (Some g) o)
-highest_step g gs None e = ((0, omega arith, λ d. refl), (omega arith, subst (AllByRecursion (λ n. n ≤ g)) (sym e) tt))
-highest_step g gs (Some m) h = ⊎_elim
-    (λ (l : g < m). let e : m ≡ max g m = omega arith in subst (λ n. Highest (g ∷ gs) (Some n)) e (has_later g m gs h.0, (omega arith, h.1)))
-    (λ (l : m ≤ g). let e : g ≡ max g m = omega arith in subst (λ n. Highest (g ∷ gs) (Some n)) e ((0, omega arith, λ d. refl), (omega arith, All-weaker (λ n. n ≤ m) (λ n. n ≤ g) (λ n k. omega arith) gs h.1)))
-    (cases_lt g m)
+highest_step g gs None e = grind (arith, common_steps)
+highest_step g gs (Some m) h = (has_higher g m gs h.0, grind (arith, common_steps))
 
 pub peaks : Peaks
 peaks [] = refl
@@ -67,11 +67,11 @@ within_more m n [] l h = tt
 within_more m n (x ∷ xs) l h = (omega (arith, h.0), within_more m n xs l h.1)
 
 pub between_end : (a b : ℕ) (xs : List ℕ) → length xs ≤ b → between a b xs ≡ drop a xs
-between_end a b xs h = take_all (b - a) (drop a xs) (omega (arith, length-drop a xs))
+between_end a b xs h = grind (arith, common_steps)
 
 bump_front_low : (W : ℕ) (xs : List ℕ) → below W xs ≡ true → Within W (bump 0 (length xs) xs)
 bump_front_low W [] h = tt
-bump_front_low W (x ∷ xs) h = let p = and_parts (ltb x W) (below W xs) h in (omega (arith, ltb-true x W p.0), bump_front_low W xs p.1)
+bump_front_low W (x ∷ xs) h = grind (arith, nat_tests, bump_front_low W xs)
 
 pub bump_low : (W a : ℕ) (xs : List ℕ) → Within W xs → below W (drop a xs) ≡ true → Within W (bump a (length xs) xs)
 bump_low W a [] w h = tt

@@ -1,8 +1,8 @@
 -- The touches of the sets: one more of them, their hits, and how many there are.
-use Rattle.std.proofs.Common.{◌≡◌, ℕ, zero, suc, ◌+◌, ◌*◌, ◌%◌, ◌^◌, ◌<◌, ◌≤◌, Bool, true, false, cond, eqb, ltb, List, [], ◌∷◌, ◌++◌, reverse, length, filter, sym, refl, ap, ◌∙◌, subst, ⊎_elim, append_assoc, append-nil, mod-lt, arith, pow_pos}
+use Rattle.std.proofs.Common.{◌≡◌, ℕ, zero, suc, ◌+◌, ◌*◌, ◌%◌, ◌^◌, ◌<◌, ◌≤◌, Bool, cond, eqb, ltb, List, [], ◌∷◌, ◌++◌, length, sym, refl, ap, ◌∙◌, subst, append_assoc, append-nil, mod-lt, arith, pow_pos}
 use Rattle.std.proofs.lemmas.List.Elements.{filter-append}
 use Rattle.std.proofs.lemmas.List.{reverse-append, length-reverse}
-use Rattle.std.proofs.lemmas.Bool.{lt-ltb, cases_eq}
+use Rattle.std.proofs.lemmas.Bool.{lt-ltb}
 use Rattle.std.proofs.lemmas.Bool.Decides.{nat_tests}
 use Rattle.histories.specs.Rule.{tally, hit, verdicts, hits}
 use Rattle.touches.specs.Taken.{of_set, touches, Room, Roomy, verdict, hits_of, Spread}
@@ -11,11 +11,7 @@ use Rattle.touches.specs.Taken.{of_set, touches, Room, Roomy, verdict, hits_of, 
 pub touches_push : (s j : ℕ) (ts : List ℕ) (x : ℕ) → touches s j (ts ++ x ∷ []) ≡ cond (eqb (x % 2 ^ s) j) (x ∷ touches s j ts) (touches s j ts)
 unfolding of_set
 touches_push s j ts x =
-    ap reverse (filter-append (λ y. eqb (y % 2 ^ s) j) ts (x ∷ [])) ∙ reverse-append (filter (λ y. eqb (y % 2 ^ s) j) ts) (filter (λ y. eqb (y % 2 ^ s) j) (x ∷ [])) ∙ go (eqb (x % 2 ^ s) j)
-  where
-    go : (b : Bool) → reverse (cond b (x ∷ []) []) ++ touches s j ts ≡ cond b (x ∷ touches s j ts) (touches s j ts)
-    go true = refl
-    go false = refl
+    grind (arith, filter-append, reverse-append)
 
 pub touches_long : (s j : ℕ) (ts : List ℕ) → length (touches s j ts) ≡ length (of_set s j ts)
 touches_long s j ts = length-reverse (of_set s j ts)
@@ -26,8 +22,7 @@ roomy_push s slots before (y ∷ took) x h room = (h.0, roomy_push s slots (befo
 
 -- ---- hits
 tally_le : (b : Bool) → tally b ≤ 1
-tally_le true = omega arith
-tally_le false = omega arith
+tally_le b = grind arith
 
 pub hits_more : (W x : ℕ) (ts : List ℕ) → hits W (x ∷ ts) ≡ tally (hit W x ts) + hits W ts
 unfolding hits verdicts
@@ -39,11 +34,8 @@ hits_le W [] = omega arith
 hits_le W (t ∷ ts) = omega (arith, tally_le (hit W t ts), hits_le W ts)
 
 pub hits_push : (W s : ℕ) (before took : List ℕ) (x : ℕ) → hits_of W s before (took ++ x ∷ []) ≡ hits_of W s before took + tally (verdict W s (before ++ took) x)
-hits_push W s before [] x = let e = ap (λ t. tally (verdict W s t x)) (append-nil before) in omega arith
-hits_push W s before (y ∷ took) x =
-    let rest = hits_push W s (before ++ y ∷ []) took x in
-    let e = ap (λ t. tally (verdict W s t x)) (append_assoc before (y ∷ []) took) in
-    omega arith
+hits_push W s before [] x = grind (arith, append-nil)
+hits_push W s before (y ∷ took) x = grind (arith, append_assoc, hits_push W s (before ++ y ∷ []) took x)
 
 -- ---- how many touches the sets have together
 
@@ -70,18 +62,11 @@ upto_le f m (suc n) h = omega (arith, h n (omega arith), upto_le f m n (λ i l. 
 
 upto_lt : (f : ℕ → ℕ) (m j n : ℕ) → ((i : ℕ) → i < n → f i ≤ m) → j < n → f j < m → upto f n < n * m
 upto_lt f m j zero h l k = absurd (omega arith)
-upto_lt f m j (suc n) h l k = ⊎_elim
-    (λ (e : j ≡ n). omega (arith, ap f e, upto_le f m n (λ i l. h i (omega arith))))
-    (λ (d : j ≡ n → ⊥). omega (arith, h n (omega arith), upto_lt f m j n (λ i l. h i (omega arith)) (omega arith) k))
-    (cases_eq j n)
+upto_lt f m j (suc n) h l k = grind (arith, upto_le f m n (λ i l. h i (omega arith)), upto_lt f m j n (λ i l. h i (omega arith)))
 
 of_set_more : (s x : ℕ) (xs : List ℕ) (i : ℕ) → length (of_set s i (x ∷ xs)) ≡ tally (eqb (x % 2 ^ s) i) + length (of_set s i xs)
 unfolding of_set
-of_set_more s x xs i = go (eqb (x % 2 ^ s) i)
-  where
-    go : (b : Bool) → length (cond b (x ∷ of_set s i xs) (of_set s i xs)) ≡ tally b + length (of_set s i xs)
-    go true = omega arith
-    go false = omega arith
+of_set_more s x xs i = grind arith
 
 abbrev each : ℕ → List ℕ → ℕ → ℕ
 each s taken i = length (of_set s i taken)

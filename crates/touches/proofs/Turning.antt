@@ -1,8 +1,9 @@
 -- One turn by the gaps, the oldest first, is one turn of the rule.
-use Rattle.std.proofs.Common.{◌≡◌, ℕ, suc, ◌+◌, ◌-◌, Bool, true, false, cond, ◌&&◌, ◌||◌, eqb, ltb, List, [], ◌∷◌, ◌++◌, map, reverse, length, take, drop, Some, None, Option, sym, refl, ap, ◌∙◌, subst, ap₂, add-one, arith}
+use Rattle.std.proofs.Common.{◌≡◌, ℕ, suc, ◌+◌, ◌-◌, Bool, true, false, cond, ◌&&◌, List, [], ◌∷◌, ◌++◌, map, reverse, length, take, drop, Some, None, Option, sym, refl, ap, ◌∙◌, ap₂, add-one, arith}
 use mathlib.Core.List.{reverse-cons}
-use Rattle.std.proofs.lemmas.Bool.{ltb-true, and_parts, both_ways}
+use Rattle.std.proofs.lemmas.Bool.{both_ways}
 use Rattle.std.proofs.lemmas.List.{take-append-drop, reverse-append, length-reverse, length-drop, drop_at, map_push}
+use Rattle.std.proofs.lemmas.Bool.Decides.{nat_tests}
 use Rattle.histories.specs.Rule.{fits, raise, occupancies, hit}
 use Rattle.histories.proofs.Index.{length_occupancies}
 use Rattle.summaries.specs.Algebra.{Within}
@@ -17,7 +18,7 @@ below_append W (x ∷ xs) ys = rw (below_append W xs ys) (grind arith)
 
 below_reverse : (W : ℕ) (xs : List ℕ) → below W (reverse xs) ≡ below W xs
 below_reverse W [] = refl
-below_reverse W (x ∷ xs) = ap (below W) (reverse-cons x xs) ∙ below_append W (reverse xs) (x ∷ []) ∙ rw (below_reverse W xs) (grind arith)
+below_reverse W (x ∷ xs) = grind (arith, reverse-cons, below_append W (reverse xs) (x ∷ []), below_reverse W xs)
 
 within_append : (m : ℕ) (xs ys : List ℕ) → Within m xs → Within m ys → Within m (xs ++ ys)
 within_append m [] ys h k = k
@@ -25,7 +26,7 @@ within_append m (x ∷ xs) ys h k = (h.0, within_append m xs ys h.1 k)
 
 within_reverse : (m : ℕ) (xs : List ℕ) → Within m xs → Within m (reverse xs)
 within_reverse m [] h = tt
-within_reverse m (x ∷ xs) h = subst (Within m) (sym (reverse-cons x xs)) (within_append m (reverse xs) (x ∷ []) (within_reverse m xs h.1) (h.0, tt))
+within_reverse m (x ∷ xs) h = grind (arith, reverse-cons, within_reverse m xs, within_append m (reverse xs) (x ∷ []))
 
 reverse_map : (xs : List ℕ) → reverse (map suc xs) ≡ map suc (reverse xs)
 reverse_map [] = refl
@@ -78,22 +79,12 @@ raise_low : (W x : ℕ) (ts os : List ℕ) → fits W x ts os ≡ true → Withi
 unfolding fits raise
 raise_low W x [] os h w = w
 raise_low W x (t ∷ ts) [] h w = tt
-raise_low W x (t ∷ ts) (o ∷ os) h w =
-    let parts = and_parts (ltb o W) (eqb x t || fits W x ts os) h in
-    (omega (arith, ltb-true o W parts.0), go (eqb x t) (raise_low W x ts os) parts.1)
-  where
-    go : (b : Bool) → (fits W x ts os ≡ true → Within W os → Within W (raise x ts os)) → (b || fits W x ts os) ≡ true → Within W (cond b os (raise x ts os))
-    go true rec k = w.1
-    go false rec k = rec k w.1
+raise_low W x (t ∷ ts) (o ∷ os) h w = grind (arith, nat_tests, raise_low W x ts os)
 
 occupancies_low : (W : ℕ) (ts : List ℕ) → Within W (occupancies W ts)
 unfolding occupancies
 occupancies_low W [] = tt
-occupancies_low W (t ∷ ts) = (omega arith, go (hit W t ts) refl (occupancies_low W ts))
-  where
-    go : (b : Bool) → hit W t ts ≡ b → Within W (occupancies W ts) → Within W (cond b (raise t ts (occupancies W ts)) (occupancies W ts))
-    go true e w = raise_low W t ts (occupancies W ts) e w
-    go false e w = w
+occupancies_low W (t ∷ ts) = grind (arith, occupancies_low W ts, raise_low W t ts (occupancies W ts))
 
 occupancies_more : (W x : ℕ) (ts : List ℕ) → occupancies W (x ∷ ts) ≡ 0 ∷ cond (hit W x ts) (raise x ts (occupancies W ts)) (occupancies W ts)
 unfolding occupancies

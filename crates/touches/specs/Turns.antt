@@ -1,6 +1,6 @@
 -- One turn of a set by its gaps, the oldest first.
 use Rattle.std.specs.Prelude.{◌≡◌, ℕ, ◌<◌, ◌≤◌, Bool, true, false, cond, ◌&&◌, List, [], ◌∷◌, ◌++◌, reverse, length, drop, IfSome, Some, None, Option, ◌==◌, nat_lt}
-use Rattle.std.specs.List.{ContainsAt as Has, AllByRecursion}
+use Rattle.std.specs.List.{Contains, All}
 use Rattle.histories.specs.Rule.{occupancies, hit, LastTouch}
 use Rattle.summaries.specs.Algebra.{Within, summary}
 use Rattle.summaries.specs.Kinds.{peak}
@@ -60,7 +60,7 @@ highest gs = (summary peak gs).highest
 
 abbrev pub Highest : List ℕ → Option ℕ → Type 0
 Highest gs None = gs ≡ []
-Highest gs (Some m) = Has gs m × AllByRecursion (λ g. g ≤ m) gs
+Highest gs (Some m) = Contains gs m × All (λ g. g ≤ m) gs
 
 abbrev pub Peaks : Type 0
 Peaks = (gs : List ℕ) → Highest gs (highest gs)

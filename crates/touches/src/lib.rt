@@ -12,16 +12,19 @@ pub fn turns_go()
 {}
 
 /// The latest turn of a line is the turn of its last touch, and there is none exactly where it was never touched.
+#[tactic(auto, using(crate::proofs::Last::found_turn))]
 pub fn turns_found()
     ensures { TurnsFound }
 {}
 
 /// The peak of some gaps is the highest of them.
+#[tactic(auto, using(crate::proofs::Peaks::peaks))]
 pub fn peaks_are_highest()
     ensures { Peaks }
 {}
 
 /// While no set has more touches than slots and one has fewer, fewer touches are taken than there are slots.
+#[tactic(auto, using(crate::proofs::Sets::spread))]
 pub fn slots_suffice()
     ensures { Spread }
 {}

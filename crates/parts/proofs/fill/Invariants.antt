@@ -1,6 +1,5 @@
-use Rattle.std.proofs.Common.{◌≡◌, drop}
 use Rattle.parts.specs.Equal.{Filled}
 use Rattle.parts.proofs.fill.Given as goal
 
-abbrev pub invariant-loop-i : goal.invariant-loop-i
-invariant-loop-i g l = Filled l.v l.i l.xs × (drop l.n l.xs ≡ drop l.n l.initial.xs)
+abbrev pub invariant-loop-x : goal.invariant-loop-x
+invariant-loop-x g l = Filled l.v l.x-index l.x-items

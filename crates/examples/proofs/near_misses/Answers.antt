@@ -1,5 +1,0 @@
-use Rattle.examples.proofs.Computed.{near_misses}
-use Rattle.examples.proofs.near_misses.Goals as goal
-
-pub returns : goal.returns
-returns c = near_misses
