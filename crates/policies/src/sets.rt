@@ -24,6 +24,7 @@ fn clear<R: RowRule>(rows: &mut [R])
 // A policy with a row for each set, in lent memory. It uses the first `sets` rows: 2^s, or none.
 #[derive(Drop)]
 pub struct Sets<'a, R> {
+    // all that was lent, since the loan of a part has a name that no contract of `open` could tie to the lender's
     rows: &'a mut [R],
     sets: usize,
     shape: Shape,
