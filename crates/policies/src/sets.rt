@@ -99,7 +99,7 @@ impl<'a, R: RowRule> Sets<'a, R> {
 
 // Opens a policy over lent rows and touches it with each line in turn: how many were held.
 pub fn hits_over<R: RowRule>(rows: &mut [R], shape: Shape, lines: &[LineNumber]) -> usize
-    ensures count { result ≡ opened_hits R.lines R.step R.none shape.s shape.ways (used (length rows.old) shape.s shape.ways) (map line_number lines.now) }
+    ensures count { result ≡ opened_hits R.lines (next_of R.step R.none) R.none shape.s shape.ways (used (length rows.old) shape.s shape.ways) (map line_number lines.now) }
     ensures spares { drop (used (length rows.old) shape.s shape.ways) rows.new ≡ drop (used (length rows.old) shape.s shape.ways) rows.old }
 {
     let mut policy = Sets::open(rows, shape);

@@ -56,8 +56,8 @@ abbrev pub opened : {M : Type 0} → (ℕ → M) → ℕ → ℕ → ℕ → Set
 opened none s w n = record { slog = s; wide = w; sets = replicate n (none w) }
 
 -- the hits of some touches from there on, oldest first
-abbrev pub opened_hits : {M : Type 0} → (M → List ℕ) → (ℕ → ℕ → M → M) → (ℕ → M) → ℕ → ℕ → ℕ → List ℕ → ℕ
-opened_hits {M} lines step none s w n xs = hits (found (λ (q : Sets M). q.slog) (held_in lines none)) (next_of step none) (opened none s w n) xs
+abbrev pub opened_hits : {M : Type 0} → (M → List ℕ) → (Sets M → ℕ → Sets M) → (ℕ → M) → ℕ → ℕ → ℕ → List ℕ → ℕ
+opened_hits {M} lines next none s w n xs = hits (found (λ (q : Sets M). q.slog) (held_in lines none)) next (opened none s w n) xs
 
 -- what a policy keeps of the rows that it is lent: it uses n of them, one for each set or none
 pub record Ready {R M : Type 0} (model : ℕ → R → M) (Fine : ℕ → M → Type 0) (s w n : ℕ) (rows : List R) : Type 0 where
@@ -111,8 +111,8 @@ srrip_hits w xs = row_hits srrip.touched (empty_row w) xs
 
 -- they are the hits of a policy of one set
 pub record OneSet (w : ℕ) (xs : List ℕ) : Type 0 where
-  pub by_lru : opened_hits lines (λ _ x m. lru.touched x m) empty_row 0 w 1 xs ≡ lru_hits w xs
-  pub by_srrip : opened_hits lines (λ _ x m. srrip.touched x m) empty_row 0 w 1 xs ≡ srrip_hits w xs
+  pub by_lru : opened_hits lines lru_next empty_row 0 w 1 xs ≡ lru_hits w xs
+  pub by_srrip : opened_hits lines srrip_next empty_row 0 w 1 xs ≡ srrip_hits w xs
 
 abbrev pub OneSetIsOneRow : Type 0
 OneSetIsOneRow = (w : ℕ) (xs : List ℕ) → OneSet w xs
