@@ -11,7 +11,7 @@ use Rattle.replacement.specs.Ways.{line_of, way, no_way, empty_row, lines, first
 use Rattle.replacement.specs.Lru.{fresh, older, placed, touched, since, others, recent, KeepsRecent, TouchedLater, LeavesOldest, AgesTell}
 use Rattle.replacement.specs.Sets.{RowLaws}
 use Rattle.replacement.proofs.Lines.{has_take, has_others, since_within}
-use Rattle.replacement.proofs.Ways.{length_lines, lines_none, first_has, first_passes, take_set}
+use Rattle.replacement.proofs.Ways.{length_lines, lines_none, has_first, first_passes, take_set}
 use Rattle.replacement.proofs.Ranks.{Ranked, ranked_length, ranked_none, ranked_touched, ranked_row, length_touched}
 
 -- ---- laws over runs
@@ -104,10 +104,9 @@ lru_laws = record { starts = starts; stays = stays; apart = λ w m f. distinct_s
 -- ---- the program's steps, on the first w of the ways s
 
 -- a hit, found in way v
-hit_is : (v x : ℕ) (m : List Way) → v ≡ first (has_line x) m → v < length m → (held x (lines m) ≡ true) × (placed (get_or m v no_way).age v x m ≡ touched x m)
+hit_is : (v x : ℕ) (m : List Way) → v ≡ first (has_line x) m → v < length m → placed (get_or m v no_way).age v x m ≡ touched x m
 hit_is v x m e l =
-    let t : held x (lines m) ≡ true = sym (first_has x m) ∙ lt-ltb _ _ (subst (λ k. k < length m) e l) in
-    (t, ap (λ k. placed (get_or m k no_way).age k x m) e ∙ sym (cond-true _ _ _ t))
+    ap (λ k. placed (get_or m k no_way).age k x m) e ∙ sym (cond-true _ _ _ (has_first x v m e l))
 
 older_zero : (m : List Way) → map (older 0) m ≡ m
 older_zero [] = refl
@@ -120,11 +119,8 @@ module _ (w v x : ℕ) (s : List Way) (at_first : v ≡ first (has_line x) (take
   read : get_or (take w s) v no_way ≡ get_or s v no_way
   read = get_or-take w s v no_way (let e = length-take w s in omega (arith, e, inside))
 
-  pub hit_found : true ≡ held x (lines (take w s))
-  hit_found = sym (hit_is v x (take w s) at_first inside).0
-
   pub hit_moves : (t : List Way) → take w t ≡ map (older (get_or s v no_way).age) (take w s) → take w (set t v (fresh x)) ≡ touched x (take w s)
-  hit_moves t g = take_set w v t (fresh x) ∙ ap (λ k. set k v (fresh x)) g ∙ ap (λ (e : Way). placed e.age v x (take w s)) (sym read) ∙ (hit_is v x (take w s) at_first inside).1
+  hit_moves t g = take_set w v t (fresh x) ∙ ap (λ k. set k v (fresh x)) g ∙ ap (λ (e : Way). placed e.age v x (take w s)) (sym read) ∙ hit_is v x (take w s) at_first inside
 
   -- a hit of the youngest line changes nothing
   pub hit_stays : (get_or s v no_way).age ≤ 0 → take w s ≡ touched x (take w s)
@@ -132,7 +128,7 @@ module _ (w v x : ℕ) (s : List Way) (at_first : v ≡ first (has_line x) (take
       let m = take w s in
       let z : (get_or m v no_way).age ≡ 0 = ap (λ (e : Way). e.age) read ∙ omega (arith, low) in
       let p = and_parts _ _ (subst (λ k. has_line x (get_or m k no_way) ≡ true) (sym at_first) (first_passes (has_line x) m (subst (λ k. k < length m) at_first inside))) in
-      sym (sym (hit_is v x m at_first inside).1 ∙ ap (λ a. placed a v x m) z ∙ ap (λ k. set k v (fresh x)) (older_zero m) ∙ ap (set m v) (fresh_is (get_or m v no_way) x (eqb-true _ _ p.1) z p.0) ∙ set-get_or m v no_way)
+      sym (sym (hit_is v x m at_first inside) ∙ ap (λ a. placed a v x m) z ∙ ap (λ k. set k v (fresh x)) (older_zero m) ∙ ap (set m v) (fresh_is (get_or m v no_way) x (eqb-true _ _ p.1) z p.0) ∙ set-get_or m v no_way)
 
 -- a miss: the way and the limit that it goes by
 pub record Chosen (m : List Way) (v a : ℕ) : Type 0 where

@@ -9,7 +9,7 @@ use Rattle.replacement.proofs.Distinct.{distinct, distinct_says}
 use Rattle.replacement.specs.Ways.{line_of, way, no_way, empty_row, lines, first, some, has_line, vacant, of_age, greatest, oldest}
 use Rattle.replacement.specs.Srrip.{risen, ripened, placed, renewed, filled, evicted, touched, row, AgesLow, Ripens, EvictsOldest}
 use Rattle.replacement.specs.Sets.{RowLaws}
-use Rattle.replacement.proofs.Ways.{length_lines, lines_none, first_has, first_passes, take_set}
+use Rattle.replacement.proofs.Ways.{length_lines, lines_none, has_first, first_passes, take_set}
 
 -- ---- the rises at once
 
@@ -158,20 +158,14 @@ ages_low w ts = (fine_row w ts).2
 -- ---- the program's steps, on the first w of the ways s
 
 module _ (w v x : ℕ) (s : List Way) (at_first : v ≡ first (has_line x) (take w s)) (inside : v < length (take w s)) where
-  far : first (has_line x) (take w s) < length (take w s)
-  far = subst (λ k. k < length (take w s)) at_first inside
-
-  pub hit_found : true ≡ held x (lines (take w s))
-  hit_found = sym (sym (first_has x (take w s)) ∙ lt-ltb _ _ far)
-
   -- the age of the way becomes 0
   pub hit_moves : (e : Way) → e ≡ get_or s v no_way → take w (set s v (way (line_of e) 0 e.held)) ≡ touched x (take w s)
   hit_moves e is =
       let m = take w s in
       let read : get_or m v no_way ≡ e = get_or-take w s v no_way (let n = length-take w s in omega (arith, n, inside)) ∙ sym is in
-      let p = and_parts _ _ (subst (λ k. has_line x k ≡ true) read (subst (λ k. has_line x (get_or m k no_way) ≡ true) (sym at_first) (first_passes (has_line x) m far))) in
+      let p = and_parts _ _ (subst (λ k. has_line x k ≡ true) read (subst (λ k. has_line x (get_or m k no_way) ≡ true) (sym at_first) (first_passes (has_line x) m (subst (λ k. k < length m) at_first inside)))) in
       let same : way (line_of e) 0 e.held ≡ way x 0 true = λ i. way (eqb-true _ _ p.1 i) 0 (p.0 i) in
-      take_set w v s _ ∙ ap (set m v) same ∙ ap (λ k. set m k (way x 0 true)) at_first ∙ sym (cond-true _ _ _ (sym hit_found))
+      take_set w v s _ ∙ ap (set m v) same ∙ ap (λ k. set m k (way x 0 true)) at_first ∙ sym (cond-true _ _ _ (has_first x v m at_first inside))
 
 pub fill_moves : (w v x : ℕ) (s : List Way) → held x (lines (take w s)) ≡ false → v ≡ first vacant (take w s) → v < length (take w s) → take w (set s v (placed x)) ≡ touched x (take w s)
 fill_moves w v x s f e l =

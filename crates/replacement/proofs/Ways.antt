@@ -1,6 +1,6 @@
 -- Rows of ways: the lines that they hold, and the first way that passes a test.
-use Rattle.std.proofs.Common.{position, Some, None, ◌≡◌, ℕ, zero, suc, ◌+◌, ◌-◌, ◌<◌, ◌≤◌, Bool, true, false, cond, ltb, List, [], ◌∷◌, ◌++◌, map, length, get_or, take, drop, set, sym, refl, ap, ◌∙◌, ⊎_elim, le_of_suc-le-suc, not-suc-le-zero, arith}
-use Rattle.std.proofs.lemmas.Bool.{cases_Bool, ltb-true}
+use Rattle.std.proofs.Common.{subst, position, Some, None, ◌≡◌, ℕ, zero, suc, ◌+◌, ◌-◌, ◌<◌, ◌≤◌, Bool, true, false, cond, ltb, List, [], ◌∷◌, ◌++◌, map, length, get_or, take, drop, set, sym, refl, ap, ◌∙◌, ⊎_elim, le_of_suc-le-suc, not-suc-le-zero, arith}
+use Rattle.std.proofs.lemmas.Bool.{lt-ltb, cases_Bool, ltb-true}
 use Rattle.std.proofs.lemmas.Bool.Decides.{nat_tests}
 use Rattle.std.specs.List.{position_or_len}
 use Rattle.std.proofs.lemmas.List.Recursion.{is_position_or_len}
@@ -33,6 +33,9 @@ first_passes p (e ∷ es) l = ⊎_elim (λ (t : p e ≡ true). rw t t) (λ (f : 
 pub first_has : (x : ℕ) (m : List Way) → ltb (first (has_line x) m) (length m) ≡ held x (lines m)
 first_has x [] = refl
 first_has x (e ∷ es) = grind (arith, nat_tests, first_has x es)
+
+pub has_first : (x v : ℕ) (m : List Way) → v ≡ first (has_line x) m → v < length m → held x (lines m) ≡ true
+has_first x v m e l = sym (first_has x m) ∙ lt-ltb _ _ (subst (λ k. k < length m) e l)
 
 pub oldest_within : (m : List Way) → 0 < length m → oldest m < length m
 oldest_within [] l = absurd (not-suc-le-zero l)

@@ -1,7 +1,7 @@
 use Rattle.std.proofs.Common.{◌-◌, take, sym}
 use Rattle.replacement.specs.Srrip.{risen}
-use Rattle.replacement.proofs.Ways.{found_at, found_none, pass_front}
-use Rattle.replacement.proofs.Srrip.{hit_found, hit_moves, fill_moves, evict_moves}
+use Rattle.replacement.proofs.Ways.{has_first, found_at, found_none, pass_front}
+use Rattle.replacement.proofs.Srrip.{hit_moves, fill_moves, evict_moves}
 use Rattle.rows.proofs.srrip.SrripAgingAging.touch.Goals as goal
 
 pub returns-in-Some : goal.returns-in-Some
@@ -9,7 +9,7 @@ returns-in-Some c =
     let w = c.args.ways in
     let s = c.args.row.now.ways in
     let f = found_at c.args.line.0 c.in-Some.w (take w s) c.in-Some.ensures in
-    record { moves = hit_moves w c.in-Some.w c.args.line.0 s f.0 f.1 c.at.result.now (c.at.ensures.value _); answer = hit_found w c.in-Some.w c.args.line.0 s f.0 f.1 }
+    record { moves = hit_moves w c.in-Some.w c.args.line.0 s f.0 f.1 c.at.result.now (c.at.ensures.value _); answer = sym (has_first c.args.line.0 c.in-Some.w (take w s) f.0 f.1) }
 
 pub returns-in-Empty : goal.returns-in-Empty
 returns-in-Empty c =
