@@ -45,7 +45,7 @@ pub fn summary_of<K: Kind>(occupancies: &[u8]) -> K
 }
 
 // The highest occupancy of a stretch; there is none where there are no gaps.
-#[derive(Clone, Copy)]
+#[derive(Clone, Copy, PartialEq, Eq, Debug)]
 pub struct Peak {
     highest: Option<u8>,
 }
@@ -75,28 +75,23 @@ impl Kind for Peak {
         Peak { highest: Some(0) }
     }
 
+    // An `Option` orders `None` below each `Some`.
     fn join(self, other: Peak) -> Peak {
-        match (self.highest, other.highest) {
-            (None, _) => other,
-            (Some(_), None) => self,
-            (Some(a), Some(b)) => Peak {
-                highest: Some(a.max(b)),
-            },
+        Peak {
+            highest: self.highest.max(other.highest),
         }
     }
 
+    #[tactic(auto, using(crate::proofs::Raises::peak_room, crate::proofs::Raises::ups_some, crate::proofs::Raises::ups_none))]
     fn raise_by(self, times: u8) -> Peak {
-        match self.highest {
-            None => self,
-            Some(a) => Peak {
-                highest: Some(a + times),
-            },
+        Peak {
+            highest: self.highest.map(|highest| highest + times),
         }
     }
 }
 
 // How many gaps a stretch has, and the sum of their occupancies.
-#[derive(Clone, Copy)]
+#[derive(Clone, Copy, PartialEq, Eq, Debug)]
 pub struct Load {
     gaps: u32,
     sum: u32,
@@ -140,16 +135,17 @@ impl Kind for Load {
         }
     }
 
+    #[tactic(auto, using(crate::proofs::Raises::load_room, crate::specs::KindLaws::load_ups))]
     fn raise_by(self, times: u8) -> Load {
         Load {
             gaps: self.gaps,
-            sum: self.sum + times as u32 * self.gaps,
+            sum: self.sum + u32::from(times) * self.gaps,
         }
     }
 }
 
 // Two kinds side by side.
-#[derive(Clone, Copy)]
+#[derive(Clone, Copy, PartialEq, Eq, Debug)]
 pub struct Both<A, B> {
     first: A,
     second: B,
@@ -199,6 +195,7 @@ impl<A: Kind, B: Kind> Kind for Both<A, B> {
         }
     }
 
+    #[tactic(auto, using(crate::specs::KindLaws::both_ups))]
     fn raise_by(self, times: u8) -> Both<A, B> {
         Both {
             first: self.first.raise_by(times),
