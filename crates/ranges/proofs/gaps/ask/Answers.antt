@@ -28,7 +28,7 @@ pub ask-requires : goal.ask-requires
 ask-requires g c =
     let s = asking g.met.K.Kind.lawful g.K.Kind.fits g.met.K.Kind.fit c.args.height c.args.count c.args.from c.args.to c.args.nodes.now c.args.recent.now c.requires in
     let o_is = c.in_tree-older.ensures in
-    rw o_is (record { long = c.requires.long; room = s.shaped.room; good = c.requires.good; small = s.older_small })
+    rw o_is (record { tree = record { long = c.requires.long; room = s.shaped.room; good = c.requires.good }; small = s.older_small })
 
 pub join-requires : goal.join-requires
 join-requires g c =

@@ -9,7 +9,7 @@ extend-requires g c =
     let m = s.full (omega (arith, c.if-newer.true, o_is)) in
     let written_is = ap (λ i. set c.args.recent.now (c.args.count - i) 0) o_is in
     let block_is = c.oldest_block-block.ensures ∙ ap (take 64) written_is in
-    rw (o_is, block_is) (record { long = c.requires.sound.long; room = m.room; good = c.requires.sound.good; small = m.small })
+    rw (o_is, block_is) (record { tree = record { long = c.requires.sound.long; room = s.shaped.room; good = c.requires.sound.good }; room = m.room; small = m.small })
 
 pub returns-then-newer : goal.returns-then-newer
 returns-then-newer g c =
@@ -18,7 +18,7 @@ returns-then-newer g c =
     let m = s.full (omega (arith, c.if-newer.true, o_is)) in
     let written_is = ap (λ i. set c.args.recent.now (c.args.count - i) 0) o_is in
     let block_is = c.oldest_block-block.ensures ∙ ap (take 64) written_is in
-    let good = rw (o_is, block_is) at c.extend.ensures.good in
+    let good = (rw (o_is, block_is) at c.extend.ensures.tree).good in
     let older = rw (o_is, block_is) at c.extend.ensures.gaps in
     let newer = c.shift.ensures ∙ ap (λ ys. take 64 (drop 64 ys)) written_is in
     let b = m.over c.extend.new.nodes c.shift.new.recent c.extend.auto.nodes (c.shift.auto.recent ∙ ap length written_is) good older newer in

@@ -15,7 +15,7 @@ raise-requires g c =
     let s = lifting c.args.height c.args.count c.args.from c.args.to c.args.nodes.now c.args.recent.now c.requires.sound c.requires.within c.requires.small in
     let o_is = c.in_tree-older.ensures in
     let m_is = c.min.ensures ∙ ap (min c.args.to) o_is in
-    rw (o_is, m_is) (record { long = c.requires.sound.long; room = s.shaped.room; good = c.requires.sound.good; within = omega arith; small = s.older_small })
+    rw (o_is, m_is) (record { tree = record { long = c.requires.sound.long; room = s.shaped.room; good = c.requires.sound.good }; within = omega arith; small = s.older_small })
 
 pub returns-then-from-older : goal.returns-then-from-older
 returns-then-from-older g c =
@@ -25,7 +25,7 @@ returns-then-from-older g c =
     let stop = c.saturating_sub-2.ensures ∙ ap (◌-◌ c.args.to) o_is in
     let m_is = c.min.ensures ∙ ap (min c.args.to) o_is in
     let newer = rw (start, stop) at c.raise_recent.ensures in
-    let good = rw o_is at c.raise.ensures.good in
+    let good = (rw o_is at c.raise.ensures.tree).good in
     let older = rw (o_is, m_is) at c.raise.ensures.gaps in
     let b = s.over c.raise.new.nodes c.raise_recent.new.recent c.raise.auto.nodes good older newer in
     record { sound = b.0; gaps = b.1 }
