@@ -75,10 +75,14 @@ impl Kind for Peak {
         Peak { highest: Some(0) }
     }
 
-    // An `Option` orders `None` below each `Some`.
+    // As a `match`, since `max` of two `Option`s took more than twice the time.
     fn join(self, other: Peak) -> Peak {
-        Peak {
-            highest: self.highest.max(other.highest),
+        match (self.highest, other.highest) {
+            (None, _) => other,
+            (Some(_), None) => self,
+            (Some(a), Some(b)) => Peak {
+                highest: Some(a.max(b)),
+            },
         }
     }
 
