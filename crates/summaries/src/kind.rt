@@ -86,7 +86,7 @@ impl Kind for Peak {
         }
     }
 
-    #[tactic(auto, using(crate::proofs::Raises::peak_room, crate::proofs::Raises::ups_some, crate::proofs::Raises::ups_none))]
+    #[tactic(auto, using(crate::proofs::Raises::peak_room, crate::proofs::Raises::raised_peak, crate::proofs::Raises::raised_nothing))]
     fn raise_by(self, times: u8) -> Peak {
         Peak {
             highest: self.highest.map(|highest| highest + times),
