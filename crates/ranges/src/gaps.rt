@@ -141,6 +141,7 @@ impl<'n, 'r, K: Kind> Gaps<'n, 'r, K> {
     }
 
     // The gaps that stand in memory already.
+    #[tactic(auto, using(crate::proofs::OneList::count_is))]
     pub fn over(
         nodes: &'n mut [Node<K>],
         recent: &'r mut [u8],
@@ -149,6 +150,7 @@ impl<'n, 'r, K: Kind> Gaps<'n, 'r, K> {
     ) -> Gaps<'n, 'r, K>
         requires { Sound K.alg height count nodes.old recent.old }
         ensures same { listed result ≡ occupancies height count nodes.old recent.old }
+        ensures length { length (listed result) ≡ count }
         ensures height { result.height ≡ height }
         ensures count { result.count ≡ count }
         ensures lends { LentBy result nodes.entry recent.entry }
