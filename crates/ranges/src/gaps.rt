@@ -108,9 +108,8 @@ pub fn clear<K: Kind>(nodes: &mut [Node<K>], height: u32)
     nodes.fill_with(|| blank);
 }
 
-// The gaps of one set of up to 2^height, in memory that is lent to them. What always holds of that memory is its ghost field. A model could not be
-// less than all four fields, since a lender has to know what its memory holds in the end. The two loans have lifetimes of their own, since of two loans
-// with one lifetime a proof does not know how they end.
+// The gaps of one set of up to 2^height, in memory that is lent to them. What always holds of that memory is a ghost field and no `impl Model`, since
+// through a model a lender does not learn what its memory holds in the end. Each loan has a lifetime of its own for the same reason.
 #[derive(Drop)]
 pub struct Gaps<'n, 'r, K: Kind> {
     nodes: &'n mut [Node<K>],
