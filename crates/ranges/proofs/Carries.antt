@@ -1,30 +1,30 @@
 -- Operations on the memory of a set, and on the list that it stands for.
-use Rattle.std.proofs.Common.{◌≡◌, ℕ, zero, suc, ◌+◌, ◌-◌, ◌<◌, ◌≤◌, Bool, true, false, cond, ◌&&◌, ltb, leb, ◌⊎◌, List, [], ◌∷◌, ◌++◌, length, get_or, take, drop, set, Some, None, Option, sym, refl, ap, ◌∙◌, subst, ap₂, subst₂, ⊎_elim, append_assoc, append-nil, arith, length-set, drop-cons}
+use Rattle.std.proofs.Common.{◌≡◌, ℕ, zero, suc, ◌+◌, ◌-◌, ◌^◌, ◌<◌, ◌≤◌, Bool, true, ◌&&◌, nat_lt, List, [], ◌∷◌, ◌++◌, length, get_or, take, drop, set, Some, None, Option, sym, refl, ap, ◌∙◌, subst, ap₂, subst₂, append_assoc, append-nil, arith, pow_mono, length-set, drop-cons, MatchOption}
 use Rattle.std.specs.List.{between}
-use Rattle.std.proofs.lemmas.Bool.{and_parts, and_from, and_left, and_right, ltb-true, lt-ltb, le-ltb, le-leb, lt-leb}
+use Rattle.std.proofs.lemmas.Bool.{and_parts, ltb-true}
 use Rattle.std.proofs.lemmas.Bool.Decides.{nat_tests}
-use Rattle.std.proofs.lemmas.List.{nil_from_length, take_all, take_at, drop_all, drop_at, take_more_set}
+use Rattle.std.proofs.lemmas.List.{take_all, take_at, drop_all, drop_at, take_more_set}
 use Rattle.summaries.specs.Algebra.{Algebra, Small, Within, ups, summary}
 use Rattle.summaries.specs.Kinds.{higher, peak, both}
 use Rattle.summaries.specs.Stretches.{bump}
 use Rattle.trees.specs.Trees.{leaves, size}
 use Rattle.ranges.specs.Occupancies.{Amounts, Sound, occupancies, recents}
-use Rattle.ranges.specs.Operations.{all_below, raisable, after, reply, ending, replies, Carried}
+use Rattle.ranges.specs.Operations.{all_below, after, reply, ending, replies, Carried}
 use Rattle.summaries.specs.declared.kind.Peak.{Peak}
 use Rattle.summaries.specs.declared.kind.Both.{Both}
 use Rattle.trees.specs.declared.tree.Node.{Node}
 use Rattle.ranges.specs.declared.operations.Operation.{Operation}
-use Rattle.ranges.specs.declared.operations.Operation.TheVariants.{Push, Raise, Ask}
+use Rattle.ranges.specs.declared.operations.Operation.TheVariants.{Push}
 use Rattle.ranges.specs.declared.operations.Answer.{Answer}
-use Rattle.ranges.specs.declared.operations.Answer.TheVariants.{Done, Summary, Refused}
-use Rattle.summaries.specs.KindLaws.{peak_ups}
+use Rattle.summaries.specs.KindLaws.{peak_ups, both_summary}
 use Rattle.summaries.proofs.Bumps.{length_bump}
-use Rattle.ranges.proofs.OneList.{shape}
+use Rattle.ranges.proofs.OneList.{count_is}
+use Rattle.ranges.proofs.Opens.{leaves_pow}
 
 -- ---- the peak of a stretch tells whether all of it is low
 abbrev below_option : ℕ → Option ℕ → Bool
 below_option m None = true
-below_option m (Some h) = ltb h m
+below_option m (Some h) = nat_lt h m
 
 below_higher : (m : ℕ) (x y : Option ℕ) → below_option m (higher x y) ≡ (below_option m x && below_option m y)
 below_higher m None y = refl
@@ -37,11 +37,18 @@ below_peak m (g ∷ gs) =
     let here : (ups peak g peak.one).highest ≡ Some g = ap (λ (p : Peak). p.highest) (peak_ups g 0) ∙ ap Some (omega arith) in
     below_higher m (ups peak g peak.one).highest (summary peak gs).highest ∙ ap₂ ◌&&◌ (ap (below_option m) here) (below_peak m gs)
 
-pub peak_low : (m h : ℕ) (gs : List ℕ) (o : Option ℕ) → o ≡ (summary peak gs).highest → o ≡ Some h → ltb h m ≡ all_below m gs
-peak_low m h gs o is some = ap (below_option m) (sym some ∙ is) ∙ below_peak m gs
+module _ {M : Type 0} (a : Algebra M) where
+  -- a test of the peak, where there is one, is a test of each gap
+  pub low_stretch : (v : Both Peak M) (p : Peak) (o : Option ℕ) (r : Bool) (gs : List ℕ) → v ≡ summary (both peak a) gs → p ≡ v.first → o ≡ p.highest → MatchOption o (r ≡ true) (λ h. r ≡ nat_lt h 16) → r ≡ all_below 16 gs
+  low_stretch v p o r gs vs ps os tested =
+      let is : o ≡ (summary peak gs).highest = os ∙ ap (λ (q : Peak). q.highest) (ps ∙ ap (λ (w : Both Peak M). w.first) (vs ∙ both_summary peak a gs)) in
+      test o tested ∙ ap (below_option 16) is ∙ below_peak 16 gs where
+        test : (o : Option ℕ) → MatchOption o (r ≡ true) (λ h. r ≡ nat_lt h 16) → r ≡ below_option 16 o
+        test None h = h
+        test (Some h) t = t
 
-pub peak_absent : (m : ℕ) (gs : List ℕ) (o : Option ℕ) → o ≡ (summary peak gs).highest → o ≡ None → true ≡ all_below m gs
-peak_absent m gs o is none = ap (below_option m) (sym none ∙ is) ∙ below_peak m gs
+  pub second_summary : (v : Both Peak M) (gs : List ℕ) → v ≡ summary (both peak a) gs → v.second ≡ summary a gs
+  second_summary v gs vs = ap (λ (w : Both Peak M). w.second) (vs ∙ both_summary peak a gs)
 
 -- ---- a stretch that is low may be raised
 within_raise : (from to : ℕ) (gs : List ℕ) → Within 16 gs → all_below 16 (between from to gs) ≡ true → Within 16 (bump from to gs)
@@ -50,8 +57,8 @@ within_raise from zero (g ∷ gs) w e = w
 within_raise zero (suc to) (g ∷ gs) w e =
     let whole : suc to - 0 ≡ suc to = omega arith in
     let rest : to - 0 ≡ to = omega arith in
-    let low : (ltb g 16 && all_below 16 (take to gs)) ≡ true = subst (λ n. all_below 16 (take n (g ∷ gs)) ≡ true) whole e in
-    let both = and_parts (ltb g 16) (all_below 16 (take to gs)) low in
+    let low : (nat_lt g 16 && all_below 16 (take to gs)) ≡ true = subst (λ n. all_below 16 (take n (g ∷ gs)) ≡ true) whole e in
+    let both = and_parts (nat_lt g 16) (all_below 16 (take to gs)) low in
     (omega (arith, ltb-true g 16 both.0), within_raise zero to gs w.1 (subst (λ n. all_below 16 (take n gs) ≡ true) (sym rest) both.1))
 within_raise (suc from) (suc to) (g ∷ gs) w e =
     let same : suc to - suc from ≡ to - from = omega arith in
@@ -60,66 +67,33 @@ within_raise (suc from) (suc to) (g ∷ gs) w e =
 pub small_raise : (from to : ℕ) (gs : List ℕ) → Small gs → all_below 16 (between from to gs) ≡ true → Small (bump from to gs)
 small_raise from to gs s e = record { few = omega (arith, s.few, length_bump from to gs); low = within_raise from to gs s.low e }
 
--- ---- one operation
-pub record Did {M : Type 0} (a : Algebra M) (k : ℕ) (o : Operation) (gs gs_after : List ℕ) (r : Answer M) : Type 0 where
-  pub leaves_list : gs_after ≡ after k o gs
-  pub answers : r ≡ reply a k o gs
-
-module _ {M : Type 0} (a : Algebra M) (k : ℕ) (o : Operation) (gs : List ℕ) where
-  pub did_push : (gs_after : List ℕ) → o ≡ Push → length gs < leaves k → gs_after ≡ gs ++ (0 ∷ []) → Did a k o gs gs_after Done
-  did_push gs_after is h e =
-      let t = sym (lt-ltb (length gs) (leaves k) h) in
-      subst (λ p. Did a k p gs gs_after Done) (sym is) (record { leaves_list = e ∙ ap (λ b. cond b (gs ++ (0 ∷ [])) gs) t; answers = ap (λ b. cond b Done Refused) t })
-
-  pub not_push : o ≡ Push → leaves k ≤ length gs → Did a k o gs gs Refused
-  not_push is h =
-      let f = sym (le-ltb (length gs) (leaves k) h) in
-      subst (λ p. Did a k p gs gs Refused) (sym is) (record { leaves_list = ap (λ b. cond b (gs ++ (0 ∷ [])) gs) f; answers = ap (λ b. cond b Done Refused) f })
-
-  pub did_raise : (from to : ℕ) (gs_after : List ℕ) → o ≡ Raise from to → to ≤ length gs → all_below 16 (between from to gs) ≡ true → gs_after ≡ bump from to gs → Did a k o gs gs_after Done
-  did_raise from to gs_after is h low e =
-      let t : true ≡ raisable from to gs = sym (and_from (leb to (length gs)) (all_below 16 (between from to gs)) (le-leb to (length gs) h) low) in
-      subst (λ p. Did a k p gs gs_after Done) (sym is) (record { leaves_list = e ∙ ap (λ b. cond b (bump from to gs) gs) t; answers = ap (λ b. cond b Done Refused) t })
-
-  pub not_raise : (from to : ℕ) → o ≡ Raise from to → (length gs < to) ⊎ (all_below 16 (between from to gs) ≡ false) → Did a k o gs gs Refused
-  not_raise from to is h =
-      let f : raisable from to gs ≡ false =
-      ⊎_elim (λ l. and_left (leb to (length gs)) (all_below 16 (between from to gs)) (lt-leb to (length gs) l)) (λ e. and_right (leb to (length gs)) (all_below 16 (between from to gs)) e) h in
-      subst (λ p. Did a k p gs gs Refused) (sym is) (record { leaves_list = ap (λ b. cond b (bump from to gs) gs) (sym f); answers = ap (λ b. cond b Done Refused) (sym f) })
-
-  pub did_ask : (from to : ℕ) (v : M) → o ≡ Ask from to → v ≡ summary a (between from to gs) → Did a k o gs gs (Summary v)
-  did_ask from to v is e = subst (λ p. Did a k p gs gs (Summary v)) (sym is) (record { leaves_list = refl; answers = ap Summary e })
-
 length_replies : {M : Type 0} (a : Algebra M) (k : ℕ) (os : List Operation) (gs : List ℕ) → length (replies a k os gs) ≡ length os
 length_replies a k [] gs = refl
 length_replies a k (o ∷ os) gs = ap suc (length_replies a k os (after k o gs))
 
--- ---- a list of operations: what was done, and what is still to come, is what the list gives
-pub record Going {M : Type 0} (a : Algebra M) (k n i : ℕ) (os : List Operation) (nodes : List (Node (Both Peak M))) (recent : List ℕ) (replied : List (Answer M)) : Type 0 where
+-- a set that is not full has few gaps
+pub few_gaps : (k n : ℕ) → k ≤ 16 → n < leaves k → n < 2 ^ 20
+few_gaps k n low free = omega (arith, free, leaves_pow k, pow_mono low)
+
+-- ---- a list of operations on the list `start`: what was done, which left gs, and what is still to come, is what the list gives
+pub record Going {M : Type 0} (a : Algebra M) (k i : ℕ) (os : List Operation) (start gs : List ℕ) (replied : List (Answer M)) : Type 0 where
   pub within : i ≤ length os
   pub long : length replied ≡ length os
-  pub sound : Sound (both peak a) k n nodes recent
-  pub ends : ending k (drop i os) (occupancies k n nodes recent) ≡ ending k os []
-  pub answers : take i replied ++ replies a k (drop i os) (occupancies k n nodes recent) ≡ replies a k os []
+  pub ends : ending k (drop i os) gs ≡ ending k os start
+  pub answers : take i replied ++ replies a k (drop i os) gs ≡ replies a k os start
 
-module _ {M : Type 0} {a : Algebra M} {k : ℕ} {os : List Operation} where
-  pub going_none : {nodes : List (Node (Both Peak M))} {recent : List ℕ} {replied : List (Answer M)} → length replied ≡ length os → Sound (both peak a) k 0 nodes recent → Going a k 0 0 os nodes recent replied
-  going_none {nodes} {recent} {replied} long s =
-      let empty : occupancies k 0 nodes recent ≡ [] = nil_from_length (occupancies k 0 nodes recent) (shape s).all_long in
-      record { within = omega arith; long = long; sound = s; ends = ap (ending k os) empty; answers = ap (replies a k os) empty }
+module _ {M : Type 0} {a : Algebra M} {k : ℕ} {os : List Operation} {start : List ℕ} where
+  pub going_none : {replied : List (Answer M)} → length replied ≡ length os → Going a k 0 os start start replied
+  going_none long = record { within = omega arith; long = long; ends = refl; answers = refl }
 
-  pub going_more : {n m i : ℕ} {o : Operation} {r : Answer M} {nodes nodes_after : List (Node (Both Peak M))} {recent recent_after : List ℕ} {replied : List (Answer M)}
-      → Going a k n i os nodes recent replied → i < length os → get_or os i Push ≡ o → Sound (both peak a) k m nodes_after recent_after
-      → occupancies k m nodes_after recent_after ≡ after k o (occupancies k n nodes recent) → r ≡ reply a k o (occupancies k n nodes recent)
-      → Going a k m (i + 1) os nodes_after recent_after (set replied i r)
-  going_more {n} {m} {i} {o} {r} {nodes} {nodes_after} {recent} {recent_after} {replied} g lt at s gaps_are answer_is =
-      let gs = occupancies k n nodes recent in
+  pub going_more : {i : ℕ} {o : Operation} {r : Answer M} {gs gs_after : List ℕ} {replied : List (Answer M)}
+      → Going a k i os start gs replied → i < length os → get_or os i Push ≡ o → gs_after ≡ after k o gs → r ≡ reply a k o gs → Going a k (i + 1) os start gs_after (set replied i r)
+  going_more {i} {o} {r} {gs} {gs_after} {replied} g lt at gaps_are answer_is =
       let next : suc i ≡ i + 1 = omega arith in
       let cut : drop i os ≡ o ∷ drop (i + 1) os = drop-cons os i Push lt ∙ ap₂ ◌∷◌ at (ap (λ j. drop j os) next) in
       record {
         within = omega arith;
         long = length-set replied i r ∙ g.long;
-        sound = s;
         ends = ap (ending k (drop (i + 1) os)) gaps_are ∙ ap (λ xs. ending k xs gs) (sym cut) ∙ g.ends;
         answers = ap₂ (λ xs ys. xs ++ replies a k (drop (i + 1) os) ys) (take_more_set replied i r (omega (arith, g.long))) gaps_are
             ∙ append_assoc (take i replied) (r ∷ []) (replies a k (drop (i + 1) os) (after k o gs))
@@ -127,31 +101,36 @@ module _ {M : Type 0} {a : Algebra M} {k : ℕ} {os : List Operation} where
             ∙ ap (λ xs. take i replied ++ replies a k xs gs) (sym cut) ∙ g.answers;
       }
 
-  pub going_all : {n i : ℕ} {nodes : List (Node (Both Peak M))} {recent : List ℕ} {replied : List (Answer M)} → Going a k n i os nodes recent replied → length os ≤ i
-      → (occupancies k n nodes recent ≡ ending k os []) × (replied ≡ replies a k os [])
-  going_all {n} {i} {nodes} {recent} {replied} g past =
-      let gs = occupancies k n nodes recent in
+  pub going_all : {i : ℕ} {gs : List ℕ} {replied : List (Answer M)} → Going a k i os start gs replied → length os ≤ i → (gs ≡ ending k os start) × (replied ≡ replies a k os start)
+  going_all {i} {gs} {replied} g past =
       let done = drop_all i os past in (
         ap (λ xs. ending k xs gs) (sym done) ∙ g.ends,
         sym (take_all i replied (omega (arith, g.long))) ∙ sym (append-nil (take i replied)) ∙ ap (λ xs. take i replied ++ replies a k xs gs) (sym done) ∙ g.answers,
       )
 
-  -- what the fronts of the three columns hold, said of the whole columns
-  pub carried : {n s m r : ℕ} {nodes nodes_front : List (Node (Both Peak M))} {recent recent_front : List ℕ} {replied replied_front : List (Answer M)}
-      → Amounts k s m r → m ≤ length nodes → r ≤ length recent → length os ≤ length replied
-      → Sound (both peak a) k n nodes_front recent_front → occupancies k n nodes_front recent_front ≡ ending k os [] → replied_front ≡ replies a k os []
-      → Carried a k n os nodes (nodes_front ++ drop m nodes) recent (recent_front ++ drop r recent) replied (replied_front ++ drop (length os) replied)
-  carried {n} {s} {m} {r} {nodes} {nodes_front} {recent} {recent_front} {replied} {replied_front} am enough_nodes enough_recent enough_replied sound gaps_are answers_are =
-      let n_front : take (size k) (nodes_front ++ drop m nodes) ≡ nodes_front = take_at nodes_front (drop m nodes) (size k) sound.long in
-      let r_front : take (recents k) (recent_front ++ drop r recent) ≡ recent_front = take_at recent_front (drop r recent) (recents k) sound.wide in
+module _ {M : Type 0} {a : Algebra M} {k : ℕ} {os : List Operation} where
+  -- what the set holds at the end, said of the whole columns: nodes_held and recent_held stand in their fronts when the loans are over
+  pub carried : {n s m r h i : ℕ} {start : List ℕ} {nodes nodes_held nodes_front nodes_rest : List (Node (Both Peak M))} {recent recent_held recent_front recent_rest : List ℕ} {replied replied_front : List (Answer M)}
+      → Amounts k s m r → m ≤ length nodes → r ≤ length recent → length os ≤ length replied → nodes_rest ≡ drop m nodes → recent_rest ≡ drop r recent
+      → h ≡ i → i ≡ k → start ≡ [] → nodes_held ≡ nodes_front → recent_held ≡ recent_front
+      → Sound (both peak a) h n nodes_held recent_held → occupancies h n nodes_held recent_held ≡ ending i os start → replied_front ≡ replies a i os start
+      → Carried a k n os nodes (nodes_front ++ nodes_rest) recent (recent_front ++ recent_rest) replied (replied_front ++ drop (length os) replied)
+  carried {n} {s} {m} {r} {h} {i} {start} {nodes} {nodes_held} {nodes_front} {nodes_rest} {recent} {recent_held} {recent_front} {recent_rest} {replied} {replied_front}
+      am enough_nodes enough_recent enough_replied nodes_end recent_end same high empty nodes_is recent_is held held_gaps held_answers =
+      let sound : Sound (both peak a) k n nodes_front recent_front = rw (← high, ← same, ← nodes_is, ← recent_is) held in
+      let gaps_are : occupancies k n nodes_front recent_front ≡ ending k os [] =
+      ap₂ (occupancies k n) (sym nodes_is) (sym recent_is) ∙ ap (λ j. occupancies j n nodes_held recent_held) (sym (same ∙ high)) ∙ held_gaps ∙ ap₂ (λ j gs. ending j os gs) high empty in
+      let answers_are : replied_front ≡ replies a k os [] = held_answers ∙ ap₂ (λ j gs. replies a j os gs) high empty in
+      let n_front : take (size k) (nodes_front ++ nodes_rest) ≡ nodes_front = take_at nodes_front nodes_rest (size k) sound.long in
+      let r_front : take (recents k) (recent_front ++ recent_rest) ≡ recent_front = take_at recent_front recent_rest (recents k) sound.wide in
       let long : length replied_front ≡ length os = ap length answers_are ∙ length_replies a k os [] in
       record {
         enough = record { low = am.low; tree = omega (arith, am.nodes_are); array = subst (λ i. i ≤ length recent) am.recent_are enough_recent; room = enough_replied };
-        count = sym (shape sound).all_long ∙ ap length gaps_are;
+        count = count_is sound ∙ ap length gaps_are;
         sound = subst₂ (Sound (both peak a) k n) (sym n_front) (sym r_front) sound;
         gaps = ap₂ (occupancies k n) n_front r_front ∙ gaps_are;
         answered = take_at replied_front (drop (length os) replied) (length os) long ∙ answers_are;
-        nodes_kept = drop_at nodes_front (drop m nodes) (size k) sound.long ∙ ap (λ i. drop i nodes) am.nodes_are;
-        recent_kept = drop_at recent_front (drop r recent) (recents k) sound.wide ∙ ap (λ i. drop i recent) am.recent_are;
+        nodes_kept = drop_at nodes_front nodes_rest (size k) sound.long ∙ nodes_end ∙ ap (λ i. drop i nodes) am.nodes_are;
+        recent_kept = drop_at recent_front recent_rest (recents k) sound.wide ∙ recent_end ∙ ap (λ i. drop i recent) am.recent_are;
         replied_kept = drop_at replied_front (drop (length os) replied) (length os) long;
       }

@@ -1,2 +1,4 @@
 pub mod Occupancies
+pub mod OneProof
+pub mod Sets
 pub mod Operations

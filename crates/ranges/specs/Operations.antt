@@ -1,6 +1,6 @@
 -- Operations on a plain list of occupancies: what each leaves, and what it answers.
-use Rattle.std.specs.Prelude.{◌≡◌, ℕ, ◌≤◌, Bool, true, cond, ◌&&◌, List, [], ◌∷◌, ◌++◌, length, take, drop, nat_le, nat_lt}
-use Rattle.std.specs.List.{between}
+use Rattle.std.specs.Prelude.{◌≡◌, ℕ, ◌≤◌, Bool, if◌then◌else◌, ◌&&◌, List, [], ◌∷◌, ◌++◌, length, take, drop, nat_le, nat_lt}
+use Rattle.std.specs.List.{between, list_all}
 use Rattle.summaries.specs.Algebra.{Algebra, summary}
 use Rattle.summaries.specs.Kinds.{peak, both}
 use Rattle.summaries.specs.Stretches.{bump}
@@ -16,8 +16,7 @@ use Rattle.ranges.specs.declared.operations.Answer.TheVariants.{Done, Summary, R
 
 -- each number is below m
 abbrev pub all_below : ℕ → List ℕ → Bool
-all_below m [] = true
-all_below m (g ∷ gs) = nat_lt g m && all_below m gs
+all_below m gs = list_all (λ g. nat_lt g m) gs
 
 -- a stretch can be raised if its gaps are there and each is below 16
 abbrev pub raisable : ℕ → ℕ → List ℕ → Bool
@@ -25,14 +24,14 @@ raisable from to gs = nat_le to (length gs) && all_below 16 (between from to gs)
 
 -- the occupancies after an operation on a list of at most 2^k; what cannot be done is refused and leaves them
 abbrev pub after : ℕ → Operation → List ℕ → List ℕ
-after k Push gs = cond (nat_lt (length gs) (leaves k)) (gs ++ (0 ∷ [])) gs
-after k (Raise from to) gs = cond (raisable from to gs) (bump from to gs) gs
+after k Push gs = if nat_lt (length gs) (leaves k) then gs ++ (0 ∷ []) else gs
+after k (Raise from to) gs = if raisable from to gs then bump from to gs else gs
 after k (Ask from to) gs = gs
 
 -- what an operation answers
 abbrev pub reply : {M : Type 0} → Algebra M → ℕ → Operation → List ℕ → Answer M
-reply a k Push gs = cond (nat_lt (length gs) (leaves k)) Done Refused
-reply a k (Raise from to) gs = cond (raisable from to gs) Done Refused
+reply a k Push gs = if nat_lt (length gs) (leaves k) then Done else Refused
+reply a k (Raise from to) gs = if raisable from to gs then Done else Refused
 reply a k (Ask from to) gs = Summary (summary a (between from to gs))
 
 -- the occupancies after operations one after another, and the answers on the way

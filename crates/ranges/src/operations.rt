@@ -1,113 +1,79 @@
 // Lists of operations on the gaps of one set, carried out from empty.
 ghost use Rattle.std.specs.Prelude.{◌≡◌, ℕ, ◌+◌, ◌-◌, ◌*◌, ◌^◌, ◌<◌, ◌≤◌, List, [], ◌∷◌, ◌++◌, length, MatchOption};
-ghost use Rattle.summaries.specs.Kinds.{peak, both};
-ghost use Rattle.trees.specs.Trees.{leaves, size};
-ghost use Rattle.ranges.specs.Occupancies.{Sound, occupancies, recents};
-ghost use Rattle.ranges.specs.Operations.{after, reply, ending, replies, all_below, Enough, Carried, Untouched};
+ghost use Rattle.ranges.specs.Operations.{after, reply, ending, replies, all_below, Carried, Untouched};
+ghost use Rattle.ranges.specs.Sets.{listed, SameSet};
 ghost use Rattle.std.specs.List.{between};
 
-use crate::gaps::{ask, clear, memory_for, push, raise};
+use crate::gaps::{Gaps, memory_for};
 use summaries::kind::{Both, Kind, Peak};
 use trees::tree::Node;
 
-#[derive(Clone, Copy)]
+#[derive(Clone, Copy, PartialEq, Eq, Debug)]
 pub enum Operation {
     Push,
     Raise { from: usize, to: usize },
     Ask { from: usize, to: usize },
 }
 
-#[derive(Clone, Copy)]
+#[derive(Clone, Copy, PartialEq, Eq, Debug)]
 pub enum Answer<K> {
     Done,
     Summary(K),
     Refused,
 }
 
-// Whether each gap from `from` up to `to` is below 16.
-fn is_low<K: Kind>(
-    nodes: &[Node<Both<Peak, K>>],
-    recent: &[u8],
-    height: u32,
-    count: usize,
-    from: usize,
-    to: usize,
-) -> bool
-    requires { Sound (both peak K.alg) height count nodes.now recent.now }
-    ensures { result ≡ all_below 16 (between from to (occupancies height count nodes.now recent.now)) }
-{
-    match ask(nodes, recent, height, count, from, to)
-        .first()
-        .highest()
+impl<'n, 'r, K: Kind> Gaps<'n, 'r, Both<Peak, K>> {
+    // Whether each gap from `from` up to `to` is below 16.
+    fn is_low(&self, from: usize, to: usize) -> bool
+        ensures { result ≡ all_below 16 (between from to (listed self.now)) }
     {
-        Some(highest) => highest < 16,
-        None => true,
+        self.ask(from, to)
+            .first()
+            .highest()
+            .is_none_or(|highest| highest < 16)
     }
-}
 
-// One operation: its answer, and how many gaps there are then.
-fn step<K: Kind>(
-    nodes: &mut [Node<Both<Peak, K>>],
-    recent: &mut [u8],
-    height: u32,
-    count: usize,
-    operation: Operation,
-) -> (Answer<K>, usize)
-    requires sound { Sound (both peak K.alg) height count nodes.old recent.old }
-    requires low { height ≤ 16 }
-    ensures sound { Sound (both peak K.alg) height result.1 nodes.new recent.new }
-    ensures gaps { occupancies height result.1 nodes.new recent.new ≡ after height operation (occupancies height count nodes.old recent.old) }
-    ensures answer { result.0 ≡ reply K.alg height operation (occupancies height count nodes.old recent.old) }
-{
-    match operation {
-        Operation::Push => {
-            let slots = nodes.len() / 2 + 1;
-            if count < slots {
-                push(nodes, recent, height, count);
-                (Answer::Done, count + 1)
-            } else {
-                (Answer::Refused, count)
+    // Carries out one operation, and answers it.
+    fn carry(&mut self, operation: Operation) -> Answer<K>
+        requires { self.old.height ≤ 16 }
+        ensures gaps { listed self.new ≡ after self.old.height operation (listed self.old) }
+        ensures answer { result ≡ reply K.alg self.old.height operation (listed self.old) }
+        ensures set { SameSet self.old self.new }
+    {
+        match operation {
+            Operation::Push => {
+                if self.is_full() {
+                    Answer::Refused
+                } else {
+                    self.push();
+                    Answer::Done
+                }
             }
-        }
-        Operation::Raise { from, to } => {
-            if to <= count && is_low(nodes, recent, height, count, from, to) {
-                raise(nodes, recent, height, count, from, to);
-                (Answer::Done, count)
-            } else {
-                (Answer::Refused, count)
+            Operation::Raise { from, to } => {
+                if to <= self.count() && self.is_low(from, to) {
+                    self.raise(from, to);
+                    Answer::Done
+                } else {
+                    Answer::Refused
+                }
             }
+            Operation::Ask { from, to } => Answer::Summary(self.ask(from, to).second()),
         }
-        Operation::Ask { from, to } => (
-            Answer::Summary(ask(nodes, recent, height, count, from, to).second()),
-            count,
-        ),
     }
-}
 
-// Carries out operations in memory of just the lengths that they need.
-fn work<K: Kind>(
-    nodes: &mut [Node<Both<Peak, K>>],
-    recent: &mut [u8],
-    height: u32,
-    operations: &[Operation],
-    answers: &mut [Answer<K>],
-) -> usize
-    requires low { height ≤ 16 }
-    requires long { length nodes.old ≡ size height }
-    requires wide { length recent.old ≡ recents height }
-    requires room { length answers.old ≡ length operations.now }
-    ensures sound { Sound (both peak K.alg) height result nodes.new recent.new }
-    ensures gaps { occupancies height result nodes.new recent.new ≡ ending height operations.now [] }
-    ensures replied { answers.new ≡ replies K.alg height operations.now [] }
-{
-    clear(nodes, height);
-    let mut count = 0;
-    for (i, operation) in operations.iter().enumerate() {
-        let (answer, then) = step(nodes, recent, height, count, *operation);
-        answers[i] = answer;
-        count = then;
+    // Carries out operations one after another.
+    fn carry_all(&mut self, operations: &[Operation], answers: &mut [Answer<K>])
+        requires low { self.old.height ≤ 16 }
+        requires room { length answers.old ≡ length operations.now }
+        ensures gaps { listed self.new ≡ ending self.old.height operations.now (listed self.old) }
+        ensures replied { answers.new ≡ replies K.alg self.old.height operations.now (listed self.old) }
+        ensures set { SameSet self.old self.new }
+    {
+        // by index, since after a `zip` with `iter_mut` a proof knows nothing of what was written
+        for (i, operation) in operations.iter().enumerate() {
+            answers[i] = self.carry(*operation);
+        }
     }
-    count
 }
 
 // Carries out operations from empty, and answers how many gaps there are at the end; none of it is done where the memory is too little or `height` is above 16.
@@ -127,11 +93,9 @@ pub fn carry_out<K: Kind>(
     {
         return None;
     }
-    Some(work(
-        &mut nodes[..memory.nodes],
-        &mut recent[..memory.recent],
-        height,
-        operations,
-        &mut answers[..operations.len()],
-    ))
+    let (tree, _) = nodes.split_at_mut(memory.nodes);
+    let (array, _) = recent.split_at_mut(memory.recent);
+    let mut gaps = Gaps::open(tree, array, height);
+    gaps.carry_all(operations, &mut answers[..operations.len()]);
+    Some(gaps.count())
 }

@@ -1,21 +1,20 @@
+use lcg::Lcg;
+use ranges::gaps::{Gaps, clear};
+use ranges::operations::Answer::{Done, Refused, Summary};
 use ranges::operations::Operation::{Ask, Push, Raise};
 use ranges::operations::{Answer, Operation, carry_out};
+use std::alloc::AllocError;
 use summaries::kind::{Both, Load, Peak};
 use trees::tree::Node;
 
-// An answer as the tables write it: a load by its number of gaps and their sum.
-#[derive(Clone, Copy, PartialEq, Eq, Debug)]
-enum Said {
-    Done,
-    Refused,
-    Load(u32, u32),
-}
+// An answer as the tables write it: a load, which cannot be made outside its crate, by its number of gaps and their sum.
+type Told = Answer<(u32, u32)>;
 
-fn told(answer: &Answer<Load>) -> Said {
+fn told(answer: &Answer<Load>) -> Told {
     match answer {
-        Answer::Done => Said::Done,
-        Answer::Refused => Said::Refused,
-        Answer::Summary(load) => Said::Load(load.gaps(), load.sum()),
+        Done => Done,
+        Summary(load) => Summary((load.gaps(), load.sum())),
+        Refused => Refused,
     }
 }
 
@@ -23,14 +22,11 @@ fn told(answer: &Answer<Load>) -> Said {
 struct Case {
     height: u32,
     operations: [Operation; 12],
-    expected: [Said; 12],
+    expected: [Told; 12],
 }
 
 #[test]
 fn small_sets(rt: HostRuntime) {
-    use Said::Done;
-    use Said::Load as L;
-    use Said::Refused as No;
     let cases = [
         // one slot: a stretch of nothing, a raise past the end, a full tree
         Case {
@@ -50,18 +46,18 @@ fn small_sets(rt: HostRuntime) {
                 Ask { from: 0, to: 1 },
             ],
             expected: [
-                L(0, 0),
-                No,
+                Summary((0, 0)),
+                Refused,
                 Done,
                 Done,
-                No,
-                L(1, 0),
+                Refused,
+                Summary((1, 0)),
                 Done,
-                L(1, 1),
-                L(0, 0),
-                L(0, 0),
-                No,
-                L(1, 1),
+                Summary((1, 1)),
+                Summary((0, 0)),
+                Summary((0, 0)),
+                Refused,
+                Summary((1, 1)),
             ],
         },
         // two slots, a push after a raise after a push
@@ -85,15 +81,15 @@ fn small_sets(rt: HostRuntime) {
                 Done,
                 Done,
                 Done,
-                L(2, 1),
+                Summary((2, 1)),
                 Done,
-                L(1, 2),
-                L(1, 1),
-                No,
+                Summary((1, 2)),
+                Summary((1, 1)),
+                Refused,
                 Done,
-                L(2, 4),
+                Summary((2, 4)),
                 Done,
-                L(2, 4),
+                Summary((2, 4)),
             ],
         },
         // stretches at both ends and in the middle
@@ -122,17 +118,17 @@ fn small_sets(rt: HostRuntime) {
                 Done,
                 Done,
                 Done,
-                L(5, 7),
-                L(1, 2),
-                L(1, 1),
-                L(0, 0),
+                Summary((5, 7)),
+                Summary((1, 2)),
+                Summary((1, 1)),
+                Summary((0, 0)),
             ],
         },
         // no set is so high
         Case {
             height: 17,
             operations: [Push; 12],
-            expected: [No; 12],
+            expected: [Refused; 12],
         },
     ];
     for case in cases.iter() {
@@ -147,54 +143,43 @@ fn small_sets(rt: HostRuntime) {
             &mut answers,
         );
         assert_eq!(rt; carried.is_some(), case.height <= 16);
-        for i in 0..12 {
-            assert_eq!(rt; told(&answers[i]), case.expected[i]);
+        for (answer, expected) in answers.iter().zip(&case.expected) {
+            assert_eq!(rt; told(answer), *expected);
         }
     }
 }
 
-// Numbers that look random.
-fn next(seed: u32) -> u32 {
-    seed.wrapping_mul(1664525).wrapping_add(1013904223)
-}
-
-// What an operation says and does on the first `count` numbers of a plain array.
-fn on_plain_list(plain: &mut [u8; 256], count: &mut usize, operation: Operation) -> Said {
+// What an operation says and does on a plain list of at most 256 numbers.
+fn on_plain_list(plain: &mut Vec<u8>, operation: Operation) -> Result<Told, AllocError> {
     match operation {
         Push => {
-            let last = *count;
-            if last >= 256 {
-                return Said::Refused;
+            if plain.len() >= 256 {
+                return Ok(Refused);
             }
-            plain[last] = 0;
-            *count = last + 1;
-            Said::Done
+            plain.push(0)?;
+            Ok(Done)
         }
         Raise { from, to } => {
-            if to > *count {
-                return Said::Refused;
+            if to > plain.len() {
+                return Ok(Refused);
             }
-            for i in from..to {
-                if i < 256 && plain[i] >= 16 {
-                    return Said::Refused;
-                }
+            let stretch = &mut plain[from.min(to)..to];
+            if stretch.iter().any(|occupancy| *occupancy >= 16) {
+                return Ok(Refused);
             }
-            for i in from..to {
-                if i < 256 {
-                    plain[i] = plain[i].wrapping_add(1);
-                }
+            for occupancy in stretch.iter_mut() {
+                *occupancy = occupancy.wrapping_add(1);
             }
-            Said::Done
+            Ok(Done)
         }
         Ask { from, to } => {
+            let end = to.min(plain.len());
             let (mut gaps, mut sum) = (0u32, 0u32);
-            for i in from..to {
-                if i < *count && i < 256 {
-                    gaps = gaps.wrapping_add(1);
-                    sum = sum.wrapping_add(plain[i] as u32);
-                }
+            for occupancy in &plain[from.min(end)..end] {
+                gaps = gaps.wrapping_add(1);
+                sum = sum.wrapping_add(u32::from(*occupancy));
             }
-            Said::Load(gaps, sum)
+            Ok(Summary((gaps, sum)))
         }
     }
 }
@@ -202,14 +187,11 @@ fn on_plain_list(plain: &mut [u8; 256], count: &mut usize, operation: Operation)
 // Operations in mixed order, some of them past the end.
 fn mixed() -> [Operation; 1200] {
     let mut operations = [Push; 1200];
-    let mut seed = 7;
-    for i in 0..1200 {
-        seed = next(seed);
-        let from = (seed >> 8) as usize % 270;
-        seed = next(seed);
-        let to = (seed >> 8) as usize % 270;
-        seed = next(seed);
-        operations[i] = match (seed >> 8) % 4 {
+    let mut lcg = Lcg::new(7);
+    for (i, operation) in operations.iter_mut().enumerate() {
+        let from = lcg.below(270);
+        let to = lcg.below(270);
+        *operation = match lcg.below(4) {
             0 => Push,
             1 => Raise {
                 from,
@@ -227,20 +209,44 @@ fn mixed() -> [Operation; 1200] {
 
 // Blocks move into the tree at 128, 192 and 256 gaps, and the set is full at the end.
 #[test]
-fn mixed_against_a_plain_list(rt: HostRuntime) {
+fn mixed_against_a_plain_list(rt: HostRuntime) -> Result<(), AllocError> {
     let operations = mixed();
     let mut nodes = [Node::<Both<Peak, Load>>::blank(); 511];
     let mut recent = [0; 128];
     let mut answers = [Answer::<Load>::Refused; 1200];
     let carried = carry_out(&mut nodes, &mut recent, 8, &operations, &mut answers);
-    let mut plain = [0; 256];
-    let mut count = 0;
-    for i in 0..1200 {
-        assert_eq!(rt;
-            told(&answers[i]),
-            on_plain_list(&mut plain, &mut count, operations[i])
-        );
+    let mut plain = Vec::new(rt.alloc());
+    for (answer, operation) in answers.iter().zip(&operations) {
+        assert_eq!(rt; told(answer), on_plain_list(&mut plain, *operation)?);
     }
-    assert_eq!(rt; count, 256);
+    assert_eq!(rt; plain.len(), 256);
     assert_eq!(rt; carried, Some(256));
+    Ok(())
+}
+
+// A set of two, in hand.
+#[test]
+fn a_set_in_hand(rt: HostRuntime) {
+    let mut nodes = [Node::<Load>::blank(); 3];
+    let mut recent = [0; 2];
+    let mut gaps = Gaps::open(&mut nodes, &mut recent, 1);
+    assert!(rt; !gaps.is_full());
+    gaps.push();
+    gaps.raise(0, 1);
+    gaps.push();
+    assert!(rt; gaps.is_full());
+    assert_eq!(rt; gaps.count(), 2);
+    let load = gaps.ask(0, 2);
+    assert_eq!(rt; (load.gaps(), load.sum()), (2, 1));
+}
+
+// Memory in which no gaps stand yet.
+#[test]
+fn memory_taken_up(rt: HostRuntime) {
+    let mut nodes = [Node::<Load>::blank(); 3];
+    let mut recent = [0; 2];
+    clear(&mut nodes, 1);
+    let gaps = Gaps::over(&mut nodes, &mut recent, 1, 0);
+    assert_eq!(rt; gaps.count(), 0);
+    assert_eq!(rt; gaps.ask(0, 2).gaps(), 0);
 }

@@ -1,6 +1,6 @@
 -- Rows of occupancies, in parts. Assumes nothing.
 use Rattle.std.proofs.Common.{◌≡◌, ℕ, zero, suc, ◌+◌, ◌-◌, ◌≤◌, ◌⊎◌, List, [], ◌∷◌, ◌++◌, length, take, drop, sym, refl, ap, ◌∙◌, ap₂, arith, length-append, length-drop, length-take}
-use Rattle.std.proofs.lemmas.List.{nil_from_length, take_all}
+use Rattle.std.proofs.lemmas.List.{drop-map, length-map, nil_from_length, take-map, take_all}
 use Rattle.std.specs.List.{between}
 use Rattle.summaries.specs.Algebra.{Within, Small}
 use Rattle.summaries.specs.Stretches.{lift}
@@ -35,30 +35,12 @@ module _ {X : Type 0} where
       let f : b - a ≡ b = omega arith in
       ap₂ (λ m i. take m (drop i xs)) f e ∙ take_all b xs h
 
-pub lift_append : (p : ℕ) (xs ys : List ℕ) → lift p (xs ++ ys) ≡ lift p xs ++ lift p ys
-lift_append p [] ys = refl
-lift_append p (x ∷ xs) ys = ap (◌∷◌ (x + p)) (lift_append p xs ys)
-
 pub lift_zero : (xs : List ℕ) → lift 0 xs ≡ xs
 lift_zero [] = refl
 lift_zero (x ∷ xs) = ap₂ ◌∷◌ (omega arith) (lift_zero xs)
 
-pub length_lift : (p : ℕ) (xs : List ℕ) → length (lift p xs) ≡ length xs
-length_lift p [] = refl
-length_lift p (x ∷ xs) = ap suc (length_lift p xs)
-
-pub lift_take : (p n : ℕ) (xs : List ℕ) → take n (lift p xs) ≡ lift p (take n xs)
-lift_take p zero xs = refl
-lift_take p (suc n) [] = refl
-lift_take p (suc n) (x ∷ xs) = ap (◌∷◌ (x + p)) (lift_take p n xs)
-
-pub lift_drop : (p n : ℕ) (xs : List ℕ) → drop n (lift p xs) ≡ lift p (drop n xs)
-lift_drop p zero xs = refl
-lift_drop p (suc n) [] = refl
-lift_drop p (suc n) (x ∷ xs) = lift_drop p n xs
-
 pub lift_between : (p a b : ℕ) (xs : List ℕ) → between a b (lift p xs) ≡ lift p (between a b xs)
-lift_between p a b xs = ap (take (b - a)) (lift_drop p a xs) ∙ lift_take p (b - a) (drop a xs)
+lift_between p a b xs = ap (take (b - a)) (drop-map (λ g. g + p) a xs) ∙ take-map (λ g. g + p) (b - a) (drop a xs)
 
 -- what is small stays so in parts
 within_left : (m : ℕ) (xs ys : List ℕ) → Within m (xs ++ ys) → Within m xs
@@ -90,7 +72,7 @@ pub small_right : (xs ys : List ℕ) → Small (xs ++ ys) → Small ys
 small_right xs ys s = record { few = omega (arith, s.few, length-append xs ys); low = within_right 16 xs ys s.low }
 
 pub small_lift : (p : ℕ) (xs : List ℕ) → Small (lift p xs) → Small xs
-small_lift p xs s = record { few = omega (arith, s.few, length_lift p xs); low = within_lift 16 p xs s.low }
+small_lift p xs s = record { few = omega (arith, s.few, length-map xs (λ g. g + p)); low = within_lift 16 p xs s.low }
 
 pub small_between : (a b : ℕ) (xs : List ℕ) → Small xs → Small (between a b xs)
 small_between a b xs s = record {

@@ -1,5 +1,5 @@
 -- The kinds of this crate, over numbers without limit, and which of their values fit the machine.
-use Rattle.std.specs.Prelude.{ℕ, ◌+◌, ◌^◌, ◌<◌, max, Some, None, Option}
+use Rattle.std.specs.Prelude.{ℕ, ◌+◌, ◌^◌, ◌<◌, max, Some, None, Option, IfSome, option_map}
 use Rattle.summaries.specs.Algebra.{Algebra}
 use Rattle.summaries.specs.declared.kind.Peak.{Peak}
 use Rattle.summaries.specs.declared.kind.Load.{Load}
@@ -15,15 +15,13 @@ higher (Some a) None = Some a
 higher (Some a) (Some b) = Some (max a b)
 
 abbrev pub more : Option ℕ → Option ℕ
-more None = None
-more (Some a) = Some (a + 1)
+more o = option_map (λ a. a + 1) o
 
 abbrev pub peak : Algebra Peak
 peak = record { none = of_highest None; one = of_highest (Some 0); join = λ x y. of_highest (higher x.highest y.highest); up = λ x. of_highest (more x.highest) }
 
 abbrev pub Byte : Option ℕ → Type 0
-Byte None = Unit {0}
-Byte (Some a) = a < 2 ^ 8
+Byte o = IfSome o (λ a. a < 2 ^ 8)
 
 abbrev pub peak_fits : Peak → Type 0
 peak_fits p = Byte p.highest

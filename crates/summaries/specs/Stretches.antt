@@ -1,10 +1,9 @@
 -- Raises of a plain list of occupancies.
-use Rattle.std.specs.Prelude.{ℕ, zero, suc, ◌+◌, List, [], ◌∷◌}
+use Rattle.std.specs.Prelude.{ℕ, zero, suc, ◌+◌, List, [], ◌∷◌, map}
 
 -- p more at each place
 abbrev pub lift : ℕ → List ℕ → List ℕ
-lift p [] = []
-lift p (g ∷ gs) = (g + p) ∷ lift p gs
+lift p gs = map (λ g. g + p) gs
 
 -- one more at each place from a up to, and without, b
 abbrev pub bump : ℕ → ℕ → List ℕ → List ℕ

@@ -45,7 +45,7 @@ pub fn summary_of<K: Kind>(occupancies: &[u8]) -> K
 }
 
 // The highest occupancy of a stretch; there is none where there are no gaps.
-#[derive(Clone, Copy)]
+#[derive(Clone, Copy, PartialEq, Eq, Debug)]
 pub struct Peak {
     highest: Option<u8>,
 }
@@ -75,6 +75,7 @@ impl Kind for Peak {
         Peak { highest: Some(0) }
     }
 
+    // As a `match`, since `max` of two `Option`s took more than twice the time.
     fn join(self, other: Peak) -> Peak {
         match (self.highest, other.highest) {
             (None, _) => other,
@@ -85,18 +86,16 @@ impl Kind for Peak {
         }
     }
 
+    #[tactic(auto, using(crate::proofs::Raises::peak_room, crate::proofs::Raises::raised_peak, crate::proofs::Raises::raised_nothing))]
     fn raise_by(self, times: u8) -> Peak {
-        match self.highest {
-            None => self,
-            Some(a) => Peak {
-                highest: Some(a + times),
-            },
+        Peak {
+            highest: self.highest.map(|highest| highest + times),
         }
     }
 }
 
 // How many gaps a stretch has, and the sum of their occupancies.
-#[derive(Clone, Copy)]
+#[derive(Clone, Copy, PartialEq, Eq, Debug)]
 pub struct Load {
     gaps: u32,
     sum: u32,
@@ -140,16 +139,17 @@ impl Kind for Load {
         }
     }
 
+    #[tactic(auto, using(crate::proofs::Raises::load_room, crate::specs::KindLaws::load_ups))]
     fn raise_by(self, times: u8) -> Load {
         Load {
             gaps: self.gaps,
-            sum: self.sum + times as u32 * self.gaps,
+            sum: self.sum + u32::from(times) * self.gaps,
         }
     }
 }
 
 // Two kinds side by side.
-#[derive(Clone, Copy)]
+#[derive(Clone, Copy, PartialEq, Eq, Debug)]
 pub struct Both<A, B> {
     first: A,
     second: B,
@@ -199,6 +199,7 @@ impl<A: Kind, B: Kind> Kind for Both<A, B> {
         }
     }
 
+    #[tactic(auto, using(crate::specs::KindLaws::both_ups))]
     fn raise_by(self, times: u8) -> Both<A, B> {
         Both {
             first: self.first.raise_by(times),

@@ -1,5 +1,4 @@
 pub mod Trees
 pub mod Asks
 pub mod Raises
-pub mod Raising
 pub mod Extends

@@ -1,5 +1,5 @@
 -- What the nodes of a tree stand for. A tree of height k stands in one slice: its root, then its left half, then its right half.
-use Rattle.std.specs.Prelude.{◌≡◌, ℕ, zero, suc, ◌+◌, ◌-◌, ◌<◌, min, List, [], ◌∷◌, ◌++◌, take, drop}
+use Rattle.std.specs.Prelude.{◌≡◌, ℕ, zero, suc, ◌+◌, ◌-◌, ◌<◌, ◌≤◌, min, List, [], ◌∷◌, ◌++◌, take, drop, length}
 use Rattle.summaries.specs.Algebra.{Algebra, summary}
 use Rattle.summaries.specs.Stretches.{lift}
 use Rattle.trees.specs.declared.tree.Node.{Node}
@@ -30,3 +30,9 @@ Good a (suc k) n [] = Unit {0}
 Good a (suc k) n (x ∷ xs) =
     (x.value ≡ summary a (gaps (suc k) n (x ∷ xs))) × (n < leaves (suc k) → x.pending ≡ 0)
     × Good a k (min n (leaves k)) (take (size k) xs) × Good a k (n - leaves k) (drop (size k) xs)
+
+-- a tree of height k with n gaps
+pub record Tree {K : Type 0} (a : Algebra K) (k n : ℕ) (xs : List (Node K)) : Type 0 where
+  pub long : length xs ≡ size k
+  pub room : n ≤ leaves k
+  pub good : Good a k n xs

@@ -1,17 +1,16 @@
-use Rattle.std.proofs.Common.{◌+◌, get_or, set, sym, ap, ◌∙◌, arith}
-use Rattle.summaries.proofs.Bumps.{bump_none}
-use Rattle.ranges.proofs.Recents.{bump_more, turn_low, bump_end}
+use Rattle.std.proofs.Common.{◌+◌, get_or, set, ap, ◌∙◌, arith}
+use Rattle.ranges.proofs.Recents.{bump_more, turn_low, put_raised}
 use Rattle.ranges.proofs.gaps.raise_recent.Goals as goal
 
-pub loop-i-init : goal.loop-i-init
-loop-i-init c = (sym (bump_none c.args.from c.args.from c.args.recent.now (omega arith)), omega arith)
+pub overflow_add-occupancy : goal.overflow_add-occupancy
+overflow_add-occupancy c =
+    let low = turn_low 16 c.args.from c.args.to c.min.result c.loop-occupancy.occupancy-index c.args.recent.now c.loop-occupancy.occupancy-items c.min.ensures c.loop-occupancy.invariant c.loop-occupancy-test.true c.requires.within c.requires.low in
+    omega (arith, low)
 
-pub overflow_add-recent : goal.overflow_add-recent
-overflow_add-recent c = let low = turn_low 16 c.args.from c.args.to c.loop-i.i c.args.recent.now c.loop-i.recent c.loop-i.invariant.0 c.loop-i.auto.i c.loop-i-test.true (omega (arith, c.requires.within)) c.requires.low in omega (arith, low)
-
-pub loop-i-preserved : goal.loop-i-preserved
-loop-i-preserved c =
-    (ap (λ ys. set ys c.loop-i.i (get_or ys c.loop-i.i 0 + 1)) c.loop-i.invariant.0 ∙ bump_more c.args.from c.loop-i.i c.args.recent.now c.loop-i.auto.i (omega (arith, c.requires.within)), omega arith)
+pub loop-occupancy-preserved : goal.loop-occupancy-preserved
+loop-occupancy-preserved c =
+    let i = c.loop-occupancy.occupancy-index in
+    ap (λ ys. set ys i (get_or ys i 0 + 1)) c.loop-occupancy.invariant ∙ bump_more i _ c.loop-occupancy-test.true
 
 pub returns : goal.returns
-returns c = c.loop-i.invariant.0 ∙ bump_end c.args.from c.args.to c.loop-i.i c.args.recent.now c.loop-i-test.false c.loop-i.auto.i c.loop-i.invariant.1
+returns c = put_raised c.args.from c.args.to c.min.result c.loop-occupancy.occupancy-index c.args.recent.now c.loop-occupancy.occupancy-items c.min.ensures c.requires.within c.loop-occupancy.invariant c.loop-occupancy-test.false

@@ -1,6 +1,6 @@
-use Rattle.std.proofs.Common.{◌≡◌, ◌≤◌, max}
+use Rattle.std.proofs.Common.{◌≡◌}
 use Rattle.summaries.specs.Stretches.{bump}
 use Rattle.ranges.proofs.gaps.raise_recent.Given as goal
 
-abbrev pub invariant-loop-i : goal.invariant-loop-i
-invariant-loop-i l = (l.recent ≡ bump l.from l.i l.initial.recent) × (l.i ≤ max l.from l.to)
+abbrev pub invariant-loop-occupancy : goal.invariant-loop-occupancy
+invariant-loop-occupancy l = l.occupancy-items ≡ bump 0 l.occupancy-index l.initial.occupancy-items

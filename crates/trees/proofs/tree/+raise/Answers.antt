@@ -1,149 +1,45 @@
-use Rattle.std.proofs.Common.{◌≡◌, ◌+◌, ◌-◌, ◌/◌, ◌<◌, ◌≤◌, min, ◌≢◌, ◌⊎◌, length, set, sym, refl, ap, ◌∙◌, subst, ap₂, inl, inr, arith, rules}
-use borrow.Author.Rules.{scaled_fits≤}
-use Rattle.summaries.specs.Algebra.{summary, ups}
-use Rattle.trees.specs.Trees.{Good, gaps}
-use Rattle.summaries.specs.Stretches.{bump}
-use Rattle.trees.specs.declared.tree.Node.{Node}
-use Rattle.summaries.proofs.Bumps.{bump_none}
-use Rattle.trees.proofs.Trees.{size_some, value_is}
-use Rattle.trees.proofs.Raises.{raised_root}
-use Rattle.trees.proofs.Raising.{mid, whole, splitting}
-use Rattle.trees.proofs.tree.+raise.Goals.{else-from-eq0-via-then-from-eq0+else-half-to, else-from-eq0-via-else-from-eq0}
+use Rattle.std.proofs.Common.{arith, rules}
+use Rattle.trees.proofs.Raises.{same_tree, whole, splitting}
 use Rattle.trees.proofs.tree.+raise.Goals as goal
-
-pub bounds-nodes-0 : goal.bounds-nodes-0
-bounds-nodes-0 g t c = omega (arith, size_some c.args.height)
 
 pub returns-then-to-from : goal.returns-then-to-from
 returns-then-to-from g t c =
-    let same = bump_none c.args.from c.args.to (gaps c.args.height c.args.count c.args.nodes.now) c.if-to-from.true in
-    record {
-      good = c.requires.good;
-      gaps = sym same;
-      value = value_is g.K.Kind.alg c.args.height c.args.count c.args.nodes.now c.index-nodes-0.result c.requires.long c.index-nodes-0.is c.requires.good ∙ ap (summary g.K.Kind.alg) (sym same);
-    }
+    let b = same_tree c.requires.tree (rw c.unwrap.ensures at c.split_first_mut.ensures.cases).0 c.args.from c.args.to c.if-to-from.true in
+    record { tree = b.tree; gaps = b.gaps_are; value = b.value }
 
-pub raise_by-value-requires : goal.raise_by-value-requires
-raise_by-value-requires g t c =
-    let w = whole g.met.K.Kind.lawful c.args.height c.args.count c.args.from c.args.to c.args.nodes.now c.index-nodes-0.result c.requires.long c.requires.room c.requires.good c.index-nodes-0.is c.if-from-eq0.true c.if-half-to.true c.requires.within c.requires.small in
-    subst g.K.Kind.fits (sym w.sum) (g.met.K.Kind.fit (bump c.args.from c.args.to (gaps c.args.height c.args.count c.args.nodes.now)) c.requires.small)
+pub raise_by-root-requires : goal.raise_by-root-requires
+raise_by-root-requires g t c = (whole g.met.K.Kind.lawful g.K.Kind.fits g.met.K.Kind.fit c.requires.tree (rw c.unwrap.ensures at c.split_first_mut.ensures.cases).0 c.args.from c.args.to c.requires.small c.requires.within c.if-from-eq0.true c.if-half-to.true).raises
 
-pub overflow_add-nodes : goal.overflow_add-nodes
-overflow_add-nodes g t c =
-    let w = whole g.met.K.Kind.lawful c.args.height c.args.count c.args.from c.args.to c.args.nodes.now c.index-nodes-0.result c.requires.long c.requires.room c.requires.good c.index-nodes-0.is c.if-from-eq0.true c.if-half-to.true c.requires.within c.requires.small in
-    omega (arith, w.low)
-
-pub bounds-nodes-0-then-half-to : goal.bounds-nodes-0-then-half-to
-bounds-nodes-0-then-half-to g t c = omega (arith, size_some c.args.height)
+pub overflow_add-root : goal.overflow_add-root
+overflow_add-root g t c = omega (arith, (whole g.met.K.Kind.lawful g.K.Kind.fits g.met.K.Kind.fit c.requires.tree (rw c.unwrap.ensures at c.split_first_mut.ensures.cases).0 c.args.from c.args.to c.requires.small c.requires.within c.if-from-eq0.true c.if-half-to.true).low)
 
 pub returns-then-half-to : goal.returns-then-half-to
 returns-then-half-to g t c =
-    let w = whole g.met.K.Kind.lawful c.args.height c.args.count c.args.from c.args.to c.args.nodes.now c.index-nodes-0.result c.requires.long c.requires.room c.requires.good c.index-nodes-0.is c.if-from-eq0.true c.if-half-to.true c.requires.within c.requires.small in
-    let b = raised_root g.K.Kind.alg g.met.K.Kind.lawful c.args.height c.args.count c.args.nodes.now c.index-nodes-0.result (record { value = c.raise_by-value.result; pending = c.index-nodes-0.result.pending + 1 }) c.requires.long c.index-nodes-0.is c.requires.good w.full refl c.raise_by-value.ensures in
-    record { good = b.good; gaps = b.gaps_are ∙ w.all; value = c.raise_by-value.ensures ∙ w.sum }
-
-pub offset_bounds-1 : goal.offset_bounds-1
-offset_bounds-1 g t c =
-    let way : (c.args.from ≢ 0) ⊎ (c.args.to ≤ length c.args.nodes.now / 2) = elim c.else-from-eq0.branch [ else-from-eq0-via-then-from-eq0+else-half-to w ↦ inr w.if-half-to.false | else-from-eq0-via-else-from-eq0 w ↦ inl w.if-from-eq0.false ] in
-    let s = splitting g.met.K.Kind.lawful g.K.Kind.fits g.met.K.Kind.fit c.args.height c.args.count c.args.from c.args.to c.args.nodes.now c.index-nodes-0.result c.requires.long c.requires.room c.requires.good c.requires.within c.requires.small c.index-nodes-0.is (omega (arith, c.if-to-from.false)) way in
-    let lt : 1 < length c.args.nodes.now = omega (arith, s.forks.long, size_some (c.args.height - 1)) in
-    search rules
-
-pub slice_bounds-raise-end : goal.slice_bounds-raise-end
-slice_bounds-raise-end g t c = omega (arith, size_some c.args.height)
+    let b = (whole g.met.K.Kind.lawful g.K.Kind.fits g.met.K.Kind.fit c.requires.tree (rw c.unwrap.ensures at c.split_first_mut.ensures.cases).0 c.args.from c.args.to c.requires.small c.requires.within c.if-from-eq0.true c.if-half-to.true).over _ c.raise_by-root.ensures in
+    record { tree = b.tree; gaps = b.gaps_are; value = b.value }
 
 pub raise-left-requires : goal.raise-left-requires
 raise-left-requires g t c κs within =
-    let way : (c.args.from ≢ 0) ⊎ (c.args.to ≤ length c.args.nodes.now / 2) = elim c.else-from-eq0.branch [ else-from-eq0-via-then-from-eq0+else-half-to w ↦ inr w.if-half-to.false | else-from-eq0-via-else-from-eq0 w ↦ inl w.if-from-eq0.false ] in
-    let s = splitting g.met.K.Kind.lawful g.K.Kind.fits g.met.K.Kind.fit c.args.height c.args.count c.args.from c.args.to c.args.nodes.now c.index-nodes-0.result c.requires.long c.requires.room c.requires.good c.requires.within c.requires.small c.index-nodes-0.is (omega (arith, c.if-to-from.false)) way in
-    let nl = c.min.ensures ∙ ap (min c.args.count) s.forks.room in
-    let bl = c.min-2.ensures ∙ ap (min c.args.to) s.forks.room in
-    (omega (arith, s.forks.up), (search rules, (s.parts.left_long, (omega (arith, nl), rw (nl, bl) (s.parts.left_good, (omega (arith, c.requires.within), s.step.left_small))))))
-
-pub offset_bounds-nodes-half : goal.offset_bounds-nodes-half
-offset_bounds-nodes-half g t c =
-    let le : length c.args.nodes.now / 2 + 1 ≤ length c.args.nodes.now = omega (arith, size_some c.args.height) in
-    search (rules, scaled_fits≤)
-
-pub slice_bounds-raise-count-2 : goal.slice_bounds-raise-count-2
-slice_bounds-raise-count-2 g t c = omega (arith, size_some c.args.height)
-
-pub slice_bounds-raise-start-2 : goal.slice_bounds-raise-start-2
-slice_bounds-raise-start-2 g t c = omega (arith, size_some c.args.height)
+    let s = splitting g.met.K.Kind.lawful g.K.Kind.fits g.met.K.Kind.fit c.requires.tree (rw c.unwrap.ensures at c.split_first_mut.ensures.cases).0 c.args.from c.args.to c.requires.small (omega arith) c.split_at_mut-left.ensures.front c.split_at_mut-left.ensures.back in
+    (omega (arith, s.forks.up), (search rules, rw (c.min.ensures, c.min-2.ensures, s.forks.room) (s.forks.left, (omega (arith, c.requires.within), s.left_small))))
 
 pub raise-right-requires : goal.raise-right-requires
 raise-right-requires g t c κs within =
-    let way : (c.args.from ≢ 0) ⊎ (c.args.to ≤ length c.args.nodes.now / 2) = elim c.else-from-eq0.branch [ else-from-eq0-via-then-from-eq0+else-half-to w ↦ inr w.if-half-to.false | else-from-eq0-via-else-from-eq0 w ↦ inl w.if-from-eq0.false ] in
-    let s = splitting g.met.K.Kind.lawful g.K.Kind.fits g.met.K.Kind.fit c.args.height c.args.count c.args.from c.args.to c.args.nodes.now c.index-nodes-0.result c.requires.long c.requires.room c.requires.good c.requires.within c.requires.small c.index-nodes-0.is (omega (arith, c.if-to-from.false)) way in
-    let m_long : length c.raise-left.new.nodes ≡ length c.args.nodes.now / 2 = c.raise-left.auto.nodes ∙ s.parts.left_long ∙ sym s.forks.half in
-    let m = mid c.args.nodes.now c.index-nodes-0.result c.raise-left.new.nodes (length c.args.nodes.now / 2) s.long c.index-nodes-0.is m_long in
-    let nr = c.saturating_sub.ensures ∙ ap (◌-◌ c.args.count) s.forks.room in
-    let ar = c.saturating_sub-2.ensures ∙ ap (◌-◌ c.args.from) s.forks.room in
-    let br = c.saturating_sub-3.ensures ∙ ap (◌-◌ c.args.to) s.forks.room in
-    (omega (arith, s.forks.up), (search rules, rw (m.right, nr, ar, br) (s.parts.right_long, (omega (arith, s.forks.twice), (s.parts.right_good, (omega (arith, c.requires.within), s.step.right_small))))))
+    let s = splitting g.met.K.Kind.lawful g.K.Kind.fits g.met.K.Kind.fit c.requires.tree (rw c.unwrap.ensures at c.split_first_mut.ensures.cases).0 c.args.from c.args.to c.requires.small (omega arith) c.split_at_mut-left.ensures.front c.split_at_mut-left.ensures.back in
+    (omega (arith, s.forks.up), (search rules, rw (c.saturating_sub.ensures, c.saturating_sub-2.ensures, c.saturating_sub-3.ensures, s.forks.room) (s.forks.right, (omega (arith, c.requires.within), s.right_small))))
 
 pub join-requires : goal.join-requires
 join-requires g t c =
-    let way : (c.args.from ≢ 0) ⊎ (c.args.to ≤ length c.args.nodes.now / 2) = elim c.else-from-eq0.branch [ else-from-eq0-via-then-from-eq0+else-half-to w ↦ inr w.if-half-to.false | else-from-eq0-via-else-from-eq0 w ↦ inl w.if-from-eq0.false ] in
-    let s = splitting g.met.K.Kind.lawful g.K.Kind.fits g.met.K.Kind.fit c.args.height c.args.count c.args.from c.args.to c.args.nodes.now c.index-nodes-0.result c.requires.long c.requires.room c.requires.good c.requires.within c.requires.small c.index-nodes-0.is (omega (arith, c.if-to-from.false)) way in
-    let nl = c.min.ensures ∙ ap (min c.args.count) s.forks.room in
-    let bl = c.min-2.ensures ∙ ap (min c.args.to) s.forks.room in
-    let m_long : length c.raise-left.new.nodes ≡ length c.args.nodes.now / 2 = c.raise-left.auto.nodes ∙ s.parts.left_long ∙ sym s.forks.half in
-    let m = mid c.args.nodes.now c.index-nodes-0.result c.raise-left.new.nodes (length c.args.nodes.now / 2) s.long c.index-nodes-0.is m_long in
-    let nr = c.saturating_sub.ensures ∙ ap (◌-◌ c.args.count) s.forks.room in
-    let ar = c.saturating_sub-2.ensures ∙ ap (◌-◌ c.args.from) s.forks.room in
-    let br = c.saturating_sub-3.ensures ∙ ap (◌-◌ c.args.to) s.forks.room in
-    let lv = rw (nl, bl) at c.raise-left.ensures.value in
-    let rv = rw (nr, ar, br, m.right) at c.raise-right.ensures.value in
-    let join = ap₂ g.K.Kind.alg.join lv rv in
-    subst g.K.Kind.fits (sym join) s.step.joins
+    let s = splitting g.met.K.Kind.lawful g.K.Kind.fits g.met.K.Kind.fit c.requires.tree (rw c.unwrap.ensures at c.split_first_mut.ensures.cases).0 c.args.from c.args.to c.requires.small (omega arith) c.split_at_mut-left.ensures.front c.split_at_mut-left.ensures.back in
+    s.joins _ _ (rw (c.min.ensures, c.min-2.ensures, s.forks.room) at c.raise-left.ensures.value) (rw (c.saturating_sub.ensures, c.saturating_sub-2.ensures, c.saturating_sub-3.ensures, s.forks.room) at c.raise-right.ensures.value)
 
-pub raise_by-value-requires-2 : goal.raise_by-value-requires-2
-raise_by-value-requires-2 g t c =
-    let way : (c.args.from ≢ 0) ⊎ (c.args.to ≤ length c.args.nodes.now / 2) = elim c.else-from-eq0.branch [ else-from-eq0-via-then-from-eq0+else-half-to w ↦ inr w.if-half-to.false | else-from-eq0-via-else-from-eq0 w ↦ inl w.if-from-eq0.false ] in
-    let s = splitting g.met.K.Kind.lawful g.K.Kind.fits g.met.K.Kind.fit c.args.height c.args.count c.args.from c.args.to c.args.nodes.now c.index-nodes-0.result c.requires.long c.requires.room c.requires.good c.requires.within c.requires.small c.index-nodes-0.is (omega (arith, c.if-to-from.false)) way in
-    let nl = c.min.ensures ∙ ap (min c.args.count) s.forks.room in
-    let bl = c.min-2.ensures ∙ ap (min c.args.to) s.forks.room in
-    let m_long : length c.raise-left.new.nodes ≡ length c.args.nodes.now / 2 = c.raise-left.auto.nodes ∙ s.parts.left_long ∙ sym s.forks.half in
-    let m = mid c.args.nodes.now c.index-nodes-0.result c.raise-left.new.nodes (length c.args.nodes.now / 2) s.long c.index-nodes-0.is m_long in
-    let nr = c.saturating_sub.ensures ∙ ap (◌-◌ c.args.count) s.forks.room in
-    let ar = c.saturating_sub-2.ensures ∙ ap (◌-◌ c.args.from) s.forks.room in
-    let br = c.saturating_sub-3.ensures ∙ ap (◌-◌ c.args.to) s.forks.room in
-    let lv = rw (nl, bl) at c.raise-left.ensures.value in
-    let rv = rw (nr, ar, br, m.right) at c.raise-right.ensures.value in
-    let join = ap₂ g.K.Kind.alg.join lv rv in
-    let sum = ap (ups g.K.Kind.alg c.index-nodes-0.result.pending) (c.join.ensures ∙ join) ∙ s.step.sums in
-    subst g.K.Kind.fits (sym sum) (g.met.K.Kind.fit (bump c.args.from c.args.to (gaps c.args.height c.args.count c.args.nodes.now)) c.requires.small)
-
-pub bounds-nodes-0-2 : goal.bounds-nodes-0-2
-bounds-nodes-0-2 g t c =
-    let way : (c.args.from ≢ 0) ⊎ (c.args.to ≤ length c.args.nodes.now / 2) = elim c.else-from-eq0.branch [ else-from-eq0-via-then-from-eq0+else-half-to w ↦ inr w.if-half-to.false | else-from-eq0-via-else-from-eq0 w ↦ inl w.if-from-eq0.false ] in
-    let s = splitting g.met.K.Kind.lawful g.K.Kind.fits g.met.K.Kind.fit c.args.height c.args.count c.args.from c.args.to c.args.nodes.now c.index-nodes-0.result c.requires.long c.requires.room c.requires.good c.requires.within c.requires.small c.index-nodes-0.is (omega (arith, c.if-to-from.false)) way in
-    let m_long : length c.raise-left.new.nodes ≡ length c.args.nodes.now / 2 = c.raise-left.auto.nodes ∙ s.parts.left_long ∙ sym s.forks.half in
-    let m = mid c.args.nodes.now c.index-nodes-0.result c.raise-left.new.nodes (length c.args.nodes.now / 2) s.long c.index-nodes-0.is m_long in
-    let whole = ap length (m.whole c.raise-right.new.nodes) in
-    omega (arith, whole)
+pub raise_by-root-requires-2 : goal.raise_by-root-requires-2
+raise_by-root-requires-2 g t c =
+    let s = splitting g.met.K.Kind.lawful g.K.Kind.fits g.met.K.Kind.fit c.requires.tree (rw c.unwrap.ensures at c.split_first_mut.ensures.cases).0 c.args.from c.args.to c.requires.small (omega arith) c.split_at_mut-left.ensures.front c.split_at_mut-left.ensures.back in
+    s.raises _ _ _ (rw (c.min.ensures, c.min-2.ensures, s.forks.room) at c.raise-left.ensures.value) (rw (c.saturating_sub.ensures, c.saturating_sub-2.ensures, c.saturating_sub-3.ensures, s.forks.room) at c.raise-right.ensures.value) c.join.ensures
 
 pub returns : goal.returns
 returns g t c =
-    let way : (c.args.from ≢ 0) ⊎ (c.args.to ≤ length c.args.nodes.now / 2) = elim c.else-from-eq0.branch [ else-from-eq0-via-then-from-eq0+else-half-to w ↦ inr w.if-half-to.false | else-from-eq0-via-else-from-eq0 w ↦ inl w.if-from-eq0.false ] in
-    let s = splitting g.met.K.Kind.lawful g.K.Kind.fits g.met.K.Kind.fit c.args.height c.args.count c.args.from c.args.to c.args.nodes.now c.index-nodes-0.result c.requires.long c.requires.room c.requires.good c.requires.within c.requires.small c.index-nodes-0.is (omega (arith, c.if-to-from.false)) way in
-    let nl = c.min.ensures ∙ ap (min c.args.count) s.forks.room in
-    let bl = c.min-2.ensures ∙ ap (min c.args.to) s.forks.room in
-    let m_long : length c.raise-left.new.nodes ≡ length c.args.nodes.now / 2 = c.raise-left.auto.nodes ∙ s.parts.left_long ∙ sym s.forks.half in
-    let m = mid c.args.nodes.now c.index-nodes-0.result c.raise-left.new.nodes (length c.args.nodes.now / 2) s.long c.index-nodes-0.is m_long in
-    let nr = c.saturating_sub.ensures ∙ ap (◌-◌ c.args.count) s.forks.room in
-    let ar = c.saturating_sub-2.ensures ∙ ap (◌-◌ c.args.from) s.forks.room in
-    let br = c.saturating_sub-3.ensures ∙ ap (◌-◌ c.args.to) s.forks.room in
-    let lv = rw (nl, bl) at c.raise-left.ensures.value in
-    let rv = rw (nr, ar, br, m.right) at c.raise-right.ensures.value in
-    let join = ap₂ g.K.Kind.alg.join lv rv in
-    let sum = c.raise_by-value-2.ensures ∙ ap (ups g.K.Kind.alg c.index-nodes-0.result.pending) (c.join.ensures ∙ join) ∙ s.step.sums in
-    let lg = rw (nl, bl) at c.raise-left.ensures.gaps in
-    let rg = rw (nr, ar, br, m.right) at c.raise-right.ensures.gaps in
-    let lgood = rw nl at c.raise-left.ensures.good in
-    let rgood = rw nr at c.raise-right.ensures.good in
-    let y : Node g.row.K.Denot = record { value = c.raise_by-value-2.result; pending = c.index-nodes-0.result.pending } in
-    let b = s.step.over y c.raise-left.new.nodes c.raise-right.new.nodes (m_long ∙ s.forks.half) refl sum lgood lg rgood rg in
-    let fin = ap (λ z. set z 0 y) (m.whole c.raise-right.new.nodes) in
-    record { good = subst (Good g.K.Kind.alg c.args.height c.args.count) (sym fin) b.good; gaps = ap (gaps c.args.height c.args.count) fin ∙ b.gaps_are; value = sum }
+    let s = splitting g.met.K.Kind.lawful g.K.Kind.fits g.met.K.Kind.fit c.requires.tree (rw c.unwrap.ensures at c.split_first_mut.ensures.cases).0 c.args.from c.args.to c.requires.small (omega arith) c.split_at_mut-left.ensures.front c.split_at_mut-left.ensures.back in
+    let b = s.over _ _ _ _ (rw (c.min.ensures, c.min-2.ensures, s.forks.room) at c.raise-left.ensures.value) (rw (c.saturating_sub.ensures, c.saturating_sub-2.ensures, c.saturating_sub-3.ensures, s.forks.room) at c.raise-right.ensures.value) c.join.ensures c.raise_by-root-2.ensures _ _ (rw (c.min.ensures, s.forks.room) at c.raise-left.ensures.tree) (rw (c.min.ensures, c.min-2.ensures, s.forks.room) at c.raise-left.ensures.gaps) (rw (c.saturating_sub.ensures, s.forks.room) at c.raise-right.ensures.tree) (rw (c.saturating_sub.ensures, c.saturating_sub-2.ensures, c.saturating_sub-3.ensures, s.forks.room) at c.raise-right.ensures.gaps) in
+    record { tree = b.tree; gaps = b.gaps_are; value = b.value }
