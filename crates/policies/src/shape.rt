@@ -15,7 +15,7 @@ impl Shape {
     pub fn rows_needed(self) -> Result<usize, Refusal>
         ensures { result ≡ needed self.s self.ways }
     {
-        if self.s > 10 || self.ways < 1 || self.ways > 16 {
+        if self.s > 10 || !(1..=16).contains(&self.ways) {
             return Err(Refusal::Limits);
         }
         Ok(1 << self.s)
