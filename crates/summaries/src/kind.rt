@@ -38,6 +38,7 @@ pub fn summary_of<K: Kind>(occupancies: &[u8]) -> K
     ensures { result ≡ summary K.alg occupancies.now }
 {
     let mut whole = K::empty();
+    // no `fold`, since a closure is proved for whatever was joined before, and not each join of that fits
     for occupancy in occupancies {
         whole = whole.join(K::single().raise_by(*occupancy));
     }
