@@ -35,6 +35,7 @@ pub enum Refusal {
 }
 
 impl Refusal {
+    // A method and no `From`: `cause.number()` says what it gives, and `u8::from(cause)` does not.
     pub fn number(self) -> u8
         ensures { result ≡ numbered self }
     {

@@ -22,7 +22,8 @@ pub struct Settings {
     ghost few: { (1 ≤ k) × (geometry.s + k ≤ 8) },
 }
 
-// The fields of a line: each space ends one, and the line's end the last. Past the line there are none.
+// The fields of a line: each space ends one, and the line's end the last. Past the line there are none. A fault is told by its column alone, since its
+// cause is the same for every field; so the place in the line is kept, and not what is left of it.
 #[derive(Drop)]
 pub struct Fields<'t> {
     line: &'t [u8],

@@ -27,7 +27,8 @@ pub trait Policy {
 
     ghost cleared: { State → State };
 
-    // what every opened policy has, and every call keeps
+    // what every opened policy has, and every call keeps; no ghost field of each policy, since a ghost field has to be a proposition, and what a rule
+    // keeps of its rows need not be one (that of LRU says that there is a list by which they are ranked)
     ghost ready: { Self → Type 0 };
 
     // what every state keeps that can be reached

@@ -15,6 +15,7 @@ pub enum Operation {
     Ask { from: usize, to: usize },
 }
 
+// Three cases with a name each: a `Result` of an `Option` would say `Ok(None)` for what was done.
 #[derive(Clone, Copy, PartialEq, Eq, Debug)]
 pub enum Answer<K> {
     Done,

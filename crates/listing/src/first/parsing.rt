@@ -67,7 +67,7 @@ trait Word: Sized {
         ensures { MatchOption result ((x : Self) → Says word.now x → ⊥) (λ x. Says word.now x) };
 }
 
-// A number of one or two decimal digits.
+// A number of one or two decimal digits. It is read here, since `parse` takes a sign and any number of zeros too.
 impl Word for u32 {
     ghost Says = { Number };
 
