@@ -77,9 +77,7 @@ fn fill(ways: u8, line: u8, touches: &[u8], gaps: &mut [u8])
     let [touch, earlier @ ..] = touches else {
         return;
     };
-    let Some((gap, older)) = gaps.split_first_mut() else {
-        return;
-    };
+    let (gap, older) = gaps.split_first_mut().unwrap();
     *gap += 1;
     if line != *touch {
         fill(ways, line, earlier, older);
@@ -97,9 +95,7 @@ fn rule(ways: u8, touches: &[u8], gaps: &mut [u8]) -> usize
     let [line, earlier @ ..] = touches else {
         return 0;
     };
-    let Some((gap, older)) = gaps.split_first_mut() else {
-        return 0;
-    };
+    let (gap, older) = gaps.split_first_mut().unwrap();
     *gap = 0;
     let count = rule(ways, earlier, older);
     if has_room(ways, *line, earlier, older) {
