@@ -46,6 +46,7 @@ fn best(touches: &[u8], held: Contents, ways: u8) -> usize
         return 0;
     };
     let mut most = 0;
+    // a loop, since a closure that calls `best` again gets no proof
     for after in EVERY {
         if may_follow(held, *line, after, ways) {
             most = most.max(best(later, after, ways));

@@ -1,16 +1,13 @@
 // Prints the listing of each file that an argument names: each holds a first line and a trace, as the standard input of `grade` does.
 #![tactic(auto)]
 
-use listing::listing::{ROOM, listing};
-use std::io::Write;
+use listing::listing::text_of;
 use std::{env, fs, io};
 
 fn print_listing(rt: &HostRuntime, name: &str) -> io::Result<()> {
     let input = fs::read(rt, name)?;
     println!(rt; "{name}")?;
-    let mut output = [0; ROOM];
-    let length = listing(&input, &mut output).map_err(|_| io::Error::from(io::ErrorKind::Other))?;
-    rt.stdout().write_all(&output[..length])
+    rt.print(text_of(&input))
 }
 
 fn main(rt: HostRuntime) -> io::Result<()> {

@@ -1,5 +1,5 @@
 //! The last turn of each line of a set. Each line has one entry, in the order in which the lines came, and the entries of lines that share a chain lead
-//! to one another, from the newest to the oldest.
+//! to one another, from the newest to the oldest. All of it is lent memory, so it is no map of the library's.
 #![tactic(auto)]
 
 ghost use Rattle.std.specs.Prelude.{◌≡◌, ℕ, ◌<◌, length, take, MatchOption};

@@ -10,17 +10,18 @@ use crate::first::Settings;
 use crate::first::parsing::settings;
 use crate::page::{Page, push_number};
 use crate::tally::Tally;
+use arrayvec::ArrayString;
 use geometry::refusal::Refusal;
 use notations::fault::{LineFault, TextFault};
 use notations::text::Lines;
 
-// An output of so many bytes has room for any listing.
+// So many bytes have room for any listing.
 pub const ROOM: usize = 8192;
 
 // The longest input that is taken, in bytes.
 const LONGEST: usize = 16384;
 
-// The most sets that a first line can choose: s + k is at most 8, and k at least 1.
+// The most sets that a first line can choose: s + k is at most 8, and k at least 1. Their counts stand in an array, as no heap is used.
 const SETS: usize = 128;
 
 // A line that tells a refusal, and where it stood.
@@ -113,7 +114,7 @@ fn list_input(input: &[u8], page: &mut Page) -> Result<(), TextFault>
 }
 
 // The whole text that the program prints of its input.
-fn compose(input: &[u8]) -> Page
+pub fn text_of(input: &[u8]) -> ArrayString<ROOM>
     ensures { Printed input.now result.bytes }
 {
     let mut page = Page::new();
@@ -127,8 +128,7 @@ fn compose(input: &[u8]) -> Page
 pub fn listing(input: &[u8], out: &mut [u8]) -> Result<usize, Refusal>
     ensures { Given input.now out.old result out.new }
 {
-    let page = compose(input);
-    copy(page.as_str().as_bytes(), out)
+    copy(text_of(input).as_str().as_bytes(), out)
 }
 
 // Copies a text to the front of the output, if it fits there.

@@ -1,7 +1,7 @@
 ghost use Rattle.std.specs.Prelude.{◌≡◌, ℕ, ◌+◌, ◌-◌, ◌^◌, ◌<◌, ◌≤◌, List, length};
 ghost use Rattle.geometry.specs.Lines.{upward, Sized, Within};
 ghost use Rattle.notations.specs.Left.{left};
-ghost use Rattle.listing.specs.Touches.{Counted, CountedOn};
+ghost use Rattle.listing.specs.Touches.{CountedOn};
 ghost use Rattle.listing.specs.Counting.{RecordCounted, LineCounted, TraceCounted};
 
 use crate::first::Settings;
@@ -22,6 +22,8 @@ pub(crate) struct Tally<'a> {
 }
 
 impl<'a> Tally<'a> {
+    ghost use Rattle.listing.specs.Tallied.{Tallied};
+
     pub(crate) fn new(settings: Settings, counts: &'a mut [u32]) -> Tally<'a>
         requires { length counts.old ≡ 2 ^ settings.geometry.s }
         ensures settings { result.settings ≡ settings }
@@ -39,8 +41,7 @@ impl<'a> Tally<'a> {
     // Counts the touches of some lines, each in its set, up to the first whose set is full.
     fn count_lines(&mut self, span: LineSpan) -> Result<(), Refusal>
         requires { (span.first.0 ≤ span.last.0) × (span.last.0 + 1 < 2 ^ 64) }
-        ensures settings { self.new.settings ≡ self.old.settings }
-        ensures counted { (taken : List ℕ) → Counted self.old.settings.geometry.s self.old.counts.now taken → CountedOn self.old.settings.geometry.s self.old.settings.k taken (upward span.first.0 (span.last.0 + 1 - span.first.0)) result self.new.counts.now }
+        ensures { Tallied self.old self.new (λ x taken counts. CountedOn x.geometry.s x.k taken (upward span.first.0 (span.last.0 + 1 - span.first.0)) result counts) }
     {
         let slots = 1 << self.settings.k;
         for line in span.first.0..span.last.0 + 1 {
@@ -56,8 +57,7 @@ impl<'a> Tally<'a> {
     // Counts the touches of a record; a refusal stands at its address's column.
     fn count_record(&mut self, access: &Record) -> Result<(), LineFault>
         requires { Sized access.now.size × Within access.now.address.0 access.now.size }
-        ensures settings { self.new.settings ≡ self.old.settings }
-        ensures counted { (taken : List ℕ) → Counted self.old.settings.geometry.s self.old.counts.now taken → RecordCounted self.old.settings.geometry.b self.old.settings.geometry.s self.old.settings.k taken access.now result self.new.counts.now }
+        ensures { Tallied self.old self.new (λ x taken counts. RecordCounted x.geometry.b x.geometry.s x.k taken access.now result counts) }
     {
         let at_address = |cause| LineFault {
             cause,
@@ -73,8 +73,7 @@ impl<'a> Tally<'a> {
 
     // Counts the touches of one line of text, if it records any.
     fn count_line(&mut self, line: &[u8]) -> Result<(), LineFault>
-        ensures settings { self.new.settings ≡ self.old.settings }
-        ensures counted { (taken : List ℕ) → Counted self.old.settings.geometry.s self.old.counts.now taken → LineCounted self.old.settings self.old.settings.k taken line.now result self.new.counts.now }
+        ensures { Tallied self.old self.new (λ x taken counts. LineCounted x x.k taken line.now result counts) }
     {
         match self.settings.format.read(line)? {
             None => Ok(()),
@@ -84,8 +83,7 @@ impl<'a> Tally<'a> {
 
     // Counts the touches of the lines that a reader has still to give.
     pub(crate) fn count_trace(&mut self, lines: &mut Lines) -> Result<(), TextFault>
-        ensures settings { self.new.settings ≡ self.old.settings }
-        ensures counted { (taken : List ℕ) → Counted self.old.settings.geometry.s self.old.counts.now taken → TraceCounted self.old.settings self.old.settings.k taken (left lines.old) (lines.old.number + 1) result self.new.counts.now }
+        ensures { Tallied self.old self.new (λ x taken counts. TraceCounted x x.k taken (left lines.old) (lines.old.number + 1) result counts) }
     {
         while let Some(line) = lines.next() {
             self.count_line(line).beside(lines.number())?;

@@ -41,7 +41,7 @@ pub(crate) fn figures(bytes: &[u8], radix: u32, most: usize) -> Numeral
     let limit = most.min(bytes.len());
     let mut value = 0;
     for (count, byte) in bytes[..limit].iter().enumerate() {
-        let Some(digit) = (*byte as char).to_digit(radix) else {
+        let Some(digit) = char::from(*byte).to_digit(radix) else {
             return Numeral { count, value };
         };
         value = value * radix as u64 + digit as u64;

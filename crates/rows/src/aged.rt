@@ -28,7 +28,7 @@ pub trait Aging: Copy {
         ensures answer { result ≡ held line.0 (held_lines (take ways row.old.ways)) };
 }
 
-// A row of ways with ages. `EMPTY` stands with each rule, since a proof knows no value of a generic constant.
+// A row of ways with ages. `EMPTY` stands with each rule, since of a constant of a generic type a caller's proof would know no value.
 #[derive(Clone, Copy)]
 pub struct AgedRow<A> {
     pub(crate) row: WayRow,

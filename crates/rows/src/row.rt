@@ -7,7 +7,7 @@ ghost use Rattle.rows.specs.Rows.{replaced, Places};
 use geometry::numbers::LineNumber;
 use replacement::Way;
 
-// A table of N way entries, each of which can be lent.
+// A table of N way entries, each of which can be lent. It is an array, since rows are lent memory of a fixed size.
 #[derive(Clone, Copy)]
 pub struct Row<T, const N: usize> {
     pub ways: [T; N],
@@ -56,7 +56,7 @@ pub enum Place {
     Oldest(usize, u8),
 }
 
-// The way that a missed line comes into.
+// The way that a missed line comes into. One pass for both cases; the library's `max_by_key` would give the last of equal ages.
 pub fn choose(ways: &[Way]) -> Place
     requires { 0 < length ways.now }
     ensures { Places ways.now result }

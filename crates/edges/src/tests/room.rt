@@ -1,5 +1,5 @@
 use geometry::refusal::Refusal;
-use listing::listing::listing;
+use listing::listing::{listing, text_of};
 
 const INPUT: &[u8] = b"4 0 2 3 din lru\n0 10\n0 20\n0 30\n0 10\n0 20\n0 30\n";
 
@@ -27,4 +27,15 @@ fn output_past_the_text(rt: HostRuntime) {
     let mut out = [7u8; 24];
     assert!(rt; listing(INPUT, &mut out).is_ok());
     assert!(rt; out[21] == b'\n' && out[22] == 7 && out[23] == 7);
+}
+
+// The text as it is made, with the line that tells a refusal of the trace, and alone for one of the input.
+#[test]
+fn texts_are_made(rt: HostRuntime) {
+    assert_eq!(rt; text_of(INPUT).as_str().as_bytes(), TEXT.as_slice());
+    assert_eq!(rt;
+        text_of(b"4 0 2 3 din lru\n0 10\n4 10\n").as_str(),
+        "set touches\n0 1\nall 1\nstopped 12 line 3 column 1\n"
+    );
+    assert_eq!(rt; text_of(b"").as_str(), "stopped 9 line 1 column 1\n");
 }

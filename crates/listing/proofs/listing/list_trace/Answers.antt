@@ -9,4 +9,4 @@ returns-clause-bytes c =
     let x = c.args.settings.now in
     let sets : 2 ^ x.geometry.s ≤ 2 ^ 7 = pow_mono {j = 7} (omega (arith, x.few)) in
     let start = subst (λ counts. Counted x.geometry.s counts []) (sym c.new-tally.ensures.counts) (none_counted _ _ 128 c.sets-sets.ensures (omega (arith, c.sets-sets.ensures))) in
-    listed _ x _ _ _ _ _ _ c.count_trace-end.result c.new-tally.ensures.settings c.requires.1 c.requires.0 start c.count_trace-end.ensures.counted (λ taken counted. c.write_table.ensures.bytes x.geometry.s taken (subst (λ counts. Counted x.geometry.s counts taken) (sym c.counts.ensures) counted))
+    listed _ x _ _ _ _ _ _ c.count_trace-end.result c.new-tally.ensures.settings c.requires.1 c.requires.0 start c.count_trace-end.ensures.1 (λ taken counted. c.write_table.ensures.bytes x.geometry.s taken (subst (λ counts. Counted x.geometry.s counts taken) (sym c.counts.ensures) counted))

@@ -3,12 +3,12 @@ use Rattle.std.proofs.lemmas.Nat.{one_shl}
 use Rattle.listing.proofs.Tallies.{Going, going_more, going_full}
 use Rattle.listing.proofs.tally.Tally.count_lines.Goals as goal
 
-pub returns-then-self-set-clause-counted : goal.returns-then-self-set-clause-counted
-returns-then-self-set-clause-counted c taken counted =
+pub returns-then-self-set : goal.returns-then-self-set
+returns-then-self-set c =
     let x = c.args.self.now.settings in
     let slots = one_shl x.k 32 (omega (arith, x.few)) in
     let set_is = c.set_of-set.ensures ∙ ap (λ y. c.loop-line.line % 2 ^ y.geometry.s) c.loop-line.invariant.0 in
-    going_full x.geometry.s x.k taken _ _ c.loop-line.line _ (omega arith) (omega arith) (subst (λ j. 2 ^ x.k ≤ get_or c.loop-line.self.counts.now j 0) set_is (omega arith)) (c.loop-line.invariant.1 taken counted)
+    (c.loop-line.invariant.0, λ taken counted. going_full x.geometry.s x.k taken _ _ c.loop-line.line _ (omega arith) (omega arith) (subst (λ j. 2 ^ x.k ≤ get_or c.loop-line.self.counts.now j 0) set_is (omega arith)) (c.loop-line.invariant.1 taken counted))
 
 pub loop-line-preserved : goal.loop-line-preserved
 loop-line-preserved c =
