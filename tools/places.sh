@@ -19,14 +19,17 @@ say "1c an answer of type bool" '\) -> bool' "$no"
 say "1d a Result whose error is a number" 'Result<.*, *(u8|u16|u32|u64|usize)>' "$no|/tests"
 say "1e a number that stands for none" '\(0: none\)|or none\.' '^$'
 say "3d a range told by two comparisons" '([a-z_.]+) < [a-z0-9]+ \|\| \1 > ' "$no"
-say "3a a for over numbers" 'for [a-z_() ,]+ in [^{]*\.\.' "$no"
+say "3a a for over numbers" 'for [a-z_() ,]+ in [^{[]*\.\.' "$no"
 say "3b a while" '^ *while ' "$no"
 say "3c a loop with a number beside its item" 'enumerate\(\)' "$no"
 say "4a equality of the number inside" '\.0 (==|!=|<|>|<=|>=) ' "$no"
 say "4b an impl of From, TryFrom, Display, PartialEq or Ord by hand" '^impl.* (From|TryFrom|Display|PartialEq|PartialOrd|Ord|Debug)\b.* for ' "$no"
 say "4c digits by hand" '% 10|\* 10\b' "$no"
 say "5a requires" '^ *requires ' "$no"
-say "5b a list of four parameters or more" 'fn [a-z_]+(<[^(]*>)?\(([^,()]*,){3}' "$no"
+# a list may stand on several lines, so it is counted apart
+lists=$(awk '/^ *\/\//{next} /(^|[ (])fn [a-z_]+/{text=""; at=FILENAME ":" FNR; on=1} on{text=text $0; if ($0 ~ /\)/ && text ~ /fn [a-z_]+[^)]*\)/) {t=text; sub(/.*fn /, "", t); name=t; sub(/[<(].*/, "", name); sub(/^[^(]*\(/, "", t); sub(/\)( ->.*| \{.*| *$).*/, "", t); n=gsub(/[a-z_]+: /, "", t); if (n>=4) print at ": " name; on=0}}' $files)
+echo "5b a list of four parameters or more: $(printf '%s' "$lists" | grep -c '')"
+[ $list = 1 ] && [ -n "$lists" ] && printf '%s\n' "$lists" | sed 's/^/    /'
 say "6a a length, a place or a number as a field beside others" '^ *(pub )?(at|length|count|used|sets|len|n): (usize|u32|u64),' "$no"
 say "6b arrays" '\[[A-Za-z0-9_:<>, ()]+; *[A-Za-z0-9_]+\]' "$no|/tests"
 say "6c an index" '[a-z_)]\[[a-z_]+( [-+] [a-z0-9_]+)?\]' "$no|^[^:]*:[0-9]*: *#"

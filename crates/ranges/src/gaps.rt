@@ -1,5 +1,6 @@
 // The gaps of one set, in lent memory: the older ones in a tree, the newest 64 to 127 as plain occupancies in an array beside it. Most stretches are
-// short and end at the newest gap, so they never reach the tree. A contract knows only one list of occupancies, the oldest first.
+// short and end at the newest gap, so they never reach the tree. A contract knows only one list of occupancies, the oldest first. A stretch goes as its two
+// ends, as in the tree.
 //
 // A caller that lends one slice at a time can take the same steps as `Gaps::raise` and `Gaps::push` here.
 ghost use Rattle.std.specs.Prelude.{◌≡◌, ℕ, ◌+◌, ◌-◌, ◌*◌, ◌/◌, ◌%◌, ◌^◌, ◌<◌, ◌≤◌, ◌↔◌, List, [], ◌∷◌, ◌++◌, length, take, drop, MatchOption, IsTrue};
