@@ -24,7 +24,7 @@ const LONGEST: usize = 16384;
 // The most sets that a first line can choose: s + k is at most 8, and k at least 1. Their counts stand in an array, as no heap is used.
 const SETS: usize = 128;
 
-// A line that tells a refusal, and where it stood.
+// A line that tells a refusal, and where it stood. Pieces are pushed, since of a `write!` a proof does not know that it finds room.
 #[tactic(auto, unfolding(crate::specs::Listing::stop))]
 fn write_stop(page: &mut Page, fault: &TextFault)
     requires { array_string_len page.old + 100 ≤ 8192 }
@@ -70,7 +70,8 @@ fn write_table(page: &mut Page, counts: &[u32])
     page.push_str("\n");
 }
 
-// The listing of the lines that a reader has still to give, but for the line that tells a refusal.
+// The listing of the lines that a reader has still to give, but for the line that tells a refusal. The page comes empty, so that a fault can be carried
+// up past it to the one place that prints it.
 fn list_trace(settings: &Settings, lines: &mut Lines, page: &mut Page) -> Result<(), TextFault>
     requires { (page.old.bytes ≡ []) × (lines.old.number ≡ 1) }
     ensures long { array_string_len page.new ≤ 8000 }
@@ -84,7 +85,7 @@ fn list_trace(settings: &Settings, lines: &mut Lines, page: &mut Page) -> Result
     end
 }
 
-// A refusal of the whole input, or of its first line.
+// A refusal of the whole input, which has no line and prints 0 and 0, or of its first line.
 fn refused(cause: Refusal, line: usize, column: usize) -> TextFault
     ensures { result ≡ record { fault = record { cause = cause; column = column }; line = line } }
 {

@@ -10,7 +10,7 @@ pub struct LineFault {
     pub column: usize,
 }
 
-// A text was refused: the fault of one of its lines, kept whole, and that line's number, from 1.
+// A text was refused: the fault of one of its lines, kept whole, and that line's number, from 1 (0 and column 0 for the whole text).
 #[derive(Clone, Copy, PartialEq, Eq, Debug)]
 pub struct TextFault {
     pub fault: LineFault,

@@ -17,7 +17,7 @@ pub fn fill<X: Copy>(xs: &mut [X], n: usize, v: X)
     ensures filled { Filled v n xs.new }
     ensures past { drop n xs.new ≡ drop n xs.old }
 {
-    // The library's `fill` asks for a clone that cannot fail, which `Copy` does not say.
+    // a `for`, since `fill` asks for a clone that cannot fail, which `Copy` does not say, and `fill_with` for a lemma more
     for x in &mut xs[..n] {
         *x = v;
     }

@@ -16,7 +16,7 @@ use rows::srrip::SrripRow;
 fn clear<R: RowRule>(rows: &mut [R])
     ensures { (k : ℕ) (d : R) (w : ℕ) → k < length rows.new → w ≤ 16 → R.model w (slice_index_or rows.new k d) ≡ R.none w }
 {
-    // a `for`, since `fill` asks for a clone that cannot fail
+    // a `for`, since `fill` asks for a clone that cannot fail, and `fill_with` for a lemma more
     for row in rows.iter_mut() {
         *row = R::blank();
     }

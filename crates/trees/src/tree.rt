@@ -1,7 +1,7 @@
 // A tree of summaries in one lent slice: the root, then the left half, then the right half. Its leaves are gaps, the oldest first.
 //
 // The slice, its height and the number of its gaps go from call to call apart: a question goes down the halves by `&`, a raise and a block by `&mut`, and
-// a struct of them would have to stand twice. A stretch goes as its two ends, since each half moves one without the other, and a `Range` is no `Copy`.
+// a struct of them would have to stand twice. A stretch goes as its two ends, since each half cuts or shifts them anew, and a `Range` is no `Copy`.
 ghost use Rattle.std.specs.Prelude.{◌≡◌, ℕ, ◌+◌, ◌-◌, ◌*◌, ◌/◌, ◌%◌, ◌^◌, ◌<◌, ◌≤◌, List, [], ◌∷◌, ◌++◌, length};
 ghost use Rattle.summaries.specs.Algebra.{Algebra, Small, summary};
 ghost use Rattle.summaries.specs.Stretches.{bump};
