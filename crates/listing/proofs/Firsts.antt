@@ -27,7 +27,7 @@ right {T} Right Then old new x r g rest =
 pub wrong : {T : Type 0} (Right : List ℕ → T → Type 0) (Then : T → Part) (old new : Fields) (c : ℕ) (r : Result Settings ℕ) → r ≡ Err c → Got {T = T} Right old new (Err c) → Rest (λ after. Next after Right (λ y. Then y after)) old r
 wrong {T} Right Then old new c r is g =
     let all : List (List ℕ) → Type 0 = λ fs. Next (length old.line.now + 1) Right (λ y. Then y (length old.line.now + 1)) fs (old.at + 1) r in
-    ⊎_elim (λ w. subst all (sym w.0) (is ∙ ap Err w.1)) (λ w. subst all (sym w.2) (inr (w.3, is ∙ ap Err w.4))) g
+    ⊎_elim (λ w. subst all (sym w.0) (is ∙ ap Err w.1)) (λ w. subst all (sym w.2) (inr (w.3, is ∙ ap Err w.4))) g.1
 
 -- s + k at most 8 keeps k at most 16
 abbrev Slots : ℕ → List ℕ → ℕ → Type 0
@@ -35,7 +35,7 @@ Slots s f k = Between 1 16 f k × (s + k ≤ 8)
 
 pub slots : (s n : ℕ) (old new : Fields) (r : Result ℕ ℕ) → n ≡ 8 - s → Got (Between 1 n) old new r → Got (Slots s) old new r
 slots s n old new (Ok k) most g = let low = g.4.1 in let high = g.4.2 in (g.0, g.1, g.2, g.3, ((g.4.0, omega arith, omega arith), omega arith))
-slots s n old new (Err c) most g = ⊎_elim inl (λ w. inr (w.0, w.1, w.2, (λ k h. let sum = h.1 in w.3 k (h.0.0, h.0.1, omega arith)), w.4)) g
+slots s n old new (Err c) most g = (g.0, ⊎_elim inl (λ w. inr (w.0, w.1, w.2, (λ k h. let sum = h.1 in w.3 k (h.0.0, h.0.1, omega arith)), w.4)) g.1)
 
 -- the line from each of its fields on
 abbrev pub FromEnd : ℕ → ℕ → ℕ → ℕ → Format → PolicyName → Part

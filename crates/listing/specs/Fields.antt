@@ -42,10 +42,10 @@ policy_word Srrip = codes "srrip"
 abbrev pub PolicyWord : List ℕ → PolicyName → Type 0
 PolicyWord f p = f ≡ policy_word p
 
--- The next field is Right for the value x, and is passed; or it is not, for any value, and is refused at its column; or it is missing, and refused at the column after the line.
+-- The line stays, and its next field is Right for the value x, and is passed; or it is not, for any value, and is refused at its column; or it is missing, and refused at the column after the line.
 abbrev pub Got : {T : Type 0} → (List ℕ → T → Type 0) → Fields → Fields → Result T ℕ → Type 0
 Got Right old new (Ok x) = (f : List ℕ) × (awaited old ≡ f ∷ awaited new) × (new.at ≡ old.at + length f + 1) × (new.line.now ≡ old.line.now) × Right f x
-Got {T} Right old new (Err c) = ((awaited old ≡ []) × (c ≡ length old.line.now + 1)) ⊎ ((f : List ℕ) × (fs : List (List ℕ)) × (awaited old ≡ f ∷ fs) × ((x : T) → Right f x → ⊥) × (c ≡ old.at + 1))
+Got {T} Right old new (Err c) = (new.line.now ≡ old.line.now) × (((awaited old ≡ []) × (c ≡ length old.line.now + 1)) ⊎ ((f : List ℕ) × (fs : List (List ℕ)) × (awaited old ≡ f ∷ fs) × ((x : T) → Right f x → ⊥) × (c ≡ old.at + 1)))
 
 -- No field is left; a further one is refused at its column.
 abbrev pub Ended : Fields → Result (Unit {0}) ℕ → Type 0
