@@ -9,6 +9,7 @@ use Rattle.geometry.specs.Lines.{upward, Sized, Within, Spans}
 use Rattle.geometry.specs.declared.access.LineSpan.{LineSpan}
 use Rattle.geometry.specs.declared.refusal.Refusal.{Refusal}
 use Rattle.geometry.specs.declared.refusal.Refusal.TheVariants.{SetFull}
+use Rattle.listing.specs.declared.first.Settings.{Settings}
 use Rattle.listing.specs.Touches.{of_set, Room, Roomy, Counted, CountedOn}
 
 pub of_set_here : (s : ℕ) (taken : List ℕ) (x j : ℕ) → x % 2 ^ s ≡ j → length (of_set s j (taken ++ x ∷ [])) ≡ length (of_set s j taken) + 1
@@ -120,3 +121,9 @@ none_counted s n room sets fit =
       each = λ j low. get_or-replicate n j 0 0 (omega arith);
       total = sum_zeros n;
     })
+
+-- .. as many as the settings allow
+pub start_counted : (x : Settings) (n : ℕ) → n ≡ 2 ^ x.geometry.s → Counted x.geometry.s (take n (replicate 128 0)) []
+start_counted x n sets =
+    let few : 2 ^ x.geometry.s ≤ 2 ^ 7 = pow_mono {j = 7} (omega (arith, x.few)) in
+    none_counted x.geometry.s n 128 sets (omega arith)
