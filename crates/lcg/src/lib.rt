@@ -1,7 +1,7 @@
 // Numbers that look random and are the same in each run, for tests and benchmarks.
 #![tactic(auto)]
 
-ghost use Rattle.std.specs.Prelude.{◌≡◌, ◌+◌, ◌*◌, ◌/◌, ◌%◌, ◌^◌, ◌<◌};
+ghost use Rattle.std.specs.Prelude.{◌≡◌, ◌+◌, ◌*◌, ◌/◌, ◌%◌, ◌^◌, max};
 
 // A linear congruential generator, with the numbers of Numerical Recipes.
 #[derive(Clone, Copy, PartialEq, Eq, Debug)]
@@ -16,14 +16,13 @@ impl Lcg {
         Lcg { seed }
     }
 
-    // The next number below `bound`. It is of the upper 24 bits of the seed, since the lower ones come round soon.
+    // The next number below `bound`, or 0 below 0. It is of the upper 24 bits of the seed, since the lower ones come round soon.
     pub fn below(&mut self, bound: usize) -> usize
-        requires { 0 < bound }
         ensures seed { self.new.seed ≡ (self.old.seed * 1664525 + 1013904223) % 2 ^ 32 }
-        ensures value { result ≡ self.new.seed / 2 ^ 8 % bound }
+        ensures value { result ≡ self.new.seed / 2 ^ 8 % max bound 1 }
     {
         self.seed = self.seed.wrapping_mul(1664525).wrapping_add(1013904223);
-        (self.seed >> 8) as usize % bound
+        (self.seed >> 8) as usize % bound.max(1)
     }
 }
 

@@ -35,7 +35,7 @@ fn plan(heap: Global, slots: usize, reach: usize) -> Result<Vec<Operation>, Allo
     let mut operations = Vec::new(heap);
     let mut lcg = Lcg::new(1);
     for count in 0..slots {
-        let from = count.saturating_sub(lcg.below(reach.max(1)));
+        let from = count.saturating_sub(lcg.below(reach));
         operations.push(Operation::Ask { from, to: count })?;
         operations.push(Operation::Raise { from, to: count })?;
         operations.push(Operation::Push)?;
