@@ -7,5 +7,5 @@ pub mod reading;
 pub struct Lines<'t> {
     rest: &'t [u8],
     number: usize,
-    ghost counted: { number + length rest.now < 2 ^ 64 },
+    ghost counted: { number + length rest.now < 2 ^ 63 },
 }

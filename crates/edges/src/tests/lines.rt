@@ -32,6 +32,23 @@ fn texts_are_cut(rt: HostRuntime) {
     }
 }
 
+// The number of the line that comes next. Of any reader it fits, by what the type keeps: no more lines were given than a text has bytes.
+fn upcoming(lines: &Lines) -> usize {
+    lines.number() + 1
+}
+
+#[test]
+fn the_next_line_has_a_number(rt: HostRuntime) {
+    let mut lines = Lines::new(b"a\n\nb");
+    for number in 1..=3 {
+        assert_eq!(rt; upcoming(&lines), number);
+        assert!(rt; lines.next().is_some());
+    }
+    // that of a line after the last, too
+    assert!(rt; lines.next().is_none());
+    assert_eq!(rt; upcoming(&lines), 4);
+}
+
 #[test]
 fn bytes_before_a_stop(rt: HostRuntime) {
     assert_eq!(rt; unbroken(b"", b'x'), 0);
