@@ -1,7 +1,8 @@
 // Reads a first line and a trace from standard input, and prints the listing of the trace.
 #![tactic(auto)]
 
-use listing::listing::text_of;
+use arrayvec::ArrayString;
+use listing::listing::put_text;
 use std::io;
 use std::io::Read;
 
@@ -11,5 +12,7 @@ const INPUT: u64 = 16385;
 fn main(rt: HostRuntime) -> io::Result<()> {
     let mut input = Vec::new(rt.alloc());
     let _ = rt.stdin().take(INPUT).read_to_end(&mut input)?;
-    rt.print(text_of(&input))
+    let mut page = ArrayString::new();
+    put_text(&input, &mut page);
+    rt.print(page.as_str())
 }

@@ -1,18 +1,21 @@
 // Prints the listing of each file that an argument names: each holds a first line and a trace, as the standard input of `grade` does.
 #![tactic(auto)]
 
-use listing::listing::text_of;
+use arrayvec::ArrayString;
+use listing::listing::{ROOM, put_text};
 use std::{env, fs, io};
 
-fn print_listing(rt: &HostRuntime, name: &str) -> io::Result<()> {
+fn print_listing(rt: &HostRuntime, name: &str, page: &mut ArrayString<ROOM>) -> io::Result<()> {
     let input = fs::read(rt, name)?;
     println!(rt; "{name}")?;
-    rt.print(text_of(&input))
+    put_text(&input, page);
+    rt.print(page.as_str())
 }
 
 fn main(rt: HostRuntime) -> io::Result<()> {
+    let mut page = ArrayString::new();
     for name in env::args(&rt)?.skip(1) {
-        print_listing(&rt, &name)?;
+        print_listing(&rt, &name, &mut page)?;
     }
     Ok(())
 }

@@ -30,7 +30,7 @@ wrong {T} Right Then old new c r is g =
     ⊎_elim (λ w. subst all (sym w.0) (is ∙ ap Err w.1)) (λ w. subst all (sym w.2) (inr (w.3, is ∙ ap Err w.4))) g.1
 
 -- s + k at most 8 keeps k at most 16
-abbrev Slots : ℕ → List ℕ → ℕ → Type 0
+abbrev pub Slots : ℕ → List ℕ → ℕ → Type 0
 Slots s f k = Between 1 16 f k × (s + k ≤ 8)
 
 pub slots : (s n : ℕ) (old new : Fields) (r : Result ℕ ℕ) → n ≡ 8 - s → Got (Between 1 n) old new r → Got (Slots s) old new r

@@ -44,8 +44,8 @@ whole_table s counts taken start p q r t n all h end total hp hq hr ht =
     ∙ append_assoc start (codes "set touches\n" ++ flat_map (set_line s taken) (upward 0 (2 ^ s))) last
 
 -- the listing of a trace, whether it ended or was stopped
-pub listed : (y x : Settings) (ls : List (List ℕ)) (n : ℕ) (before after text out : List ℕ) (r : Result (Unit {0}) TextFault) → y ≡ x → n ≡ 1 → Counted x.geometry.s before [] → ((taken : List ℕ) → Counted y.geometry.s before taken → TraceCounted y y.k taken ls (n + 1) r after) → ((taken : List ℕ) → Counted x.geometry.s after taken → text ≡ table x.geometry.s taken) → out ≡ text ++ closing (ending r) → Listed x ls out
-listed y x ls n before after text out r same one start h shows last =
+pub listed : (y x : Settings) (ls : List (List ℕ)) (n : ℕ) (before after page text : List ℕ) (r : Result (Unit {0}) TextFault) → y ≡ x → n ≡ 1 → page ≡ [] → Counted x.geometry.s before [] → ((taken : List ℕ) → Counted y.geometry.s before taken → TraceCounted y y.k taken ls (n + 1) r after) → ((taken : List ℕ) → Counted x.geometry.s after taken → text ≡ page ++ table x.geometry.s taken) → Listed x ls (text ++ closing (ending r))
+listed y x ls n before after page text r same one none start h shows =
     let t : TraceCounted x x.k [] ls (n + 1) r after = subst (λ (z : Settings). (taken : List ℕ) → Counted z.geometry.s before taken → TraceCounted z z.k taken ls (n + 1) r after) same h [] start in
     let second : n + 1 ≡ 2 = omega arith in
-    (t.0, ending r, subst (λ m. Traced (grammar_of x.format) x.geometry.b x.geometry.s x.k ls m [] t.0 (ending r)) second t.1, last ∙ ap (λ p. p ++ closing (ending r)) (shows t.0 t.2))
+    (t.0, ending r, subst (λ m. Traced (grammar_of x.format) x.geometry.b x.geometry.s x.k ls m [] t.0 (ending r)) second t.1, ap (λ p. p ++ closing (ending r)) (shows t.0 t.2 ∙ ap (λ p. p ++ table x.geometry.s t.0) none))

@@ -53,73 +53,94 @@ fn write_set(page: &mut Page, set: usize, touches: u32)
     page.push_str("\n");
 }
 
-// A heading, a line for each set, and one for all touches.
-fn table_of(counts: &[u32]) -> Page
-    requires { length counts.now ≤ 128 }
-    ensures long { array_string_len result ≤ 8000 }
-    ensures bytes { (s : ℕ) (taken : List ℕ) → Counted s counts.now taken → result.bytes ≡ table s taken }
+// A line for each set, and one for all touches.
+fn write_table(page: &mut Page, counts: &[u32])
+    requires { (page.old.bytes ≡ []) × (length counts.now ≤ 128) }
+    ensures long { array_string_len page.new ≤ 8000 }
+    ensures bytes { (s : ℕ) (taken : List ℕ) → Counted s counts.now taken → page.new.bytes ≡ page.old.bytes ++ table s taken }
 {
-    let mut page = Page::new();
     page.push_str("set touches\n");
     let mut all: u64 = 0;
     for (set, touches) in counts.iter().enumerate() {
-        write_set(&mut page, set, *touches);
+        write_set(page, set, *touches);
         all += u64::from(*touches);
     }
     page.push_str("all ");
-    push_number(&mut page, all);
+    push_number(page, all);
     page.push_str("\n");
-    page
 }
 
-// The listing of the lines that a reader has still to give.
-fn list_trace(settings: &Settings, lines: &mut Lines) -> Page
-    requires { lines.old.number ≡ 1 }
-    ensures { Listed settings.now (left lines.old) result.bytes }
+// The listing of the lines that a reader has still to give, but for the line that tells a refusal. The page comes empty, so that a fault can be carried
+// up past it to the one place that prints it.
+fn list_trace(settings: &Settings, lines: &mut Lines, page: &mut Page) -> Result<(), TextFault>
+    requires { (page.old.bytes ≡ []) × (lines.old.number ≡ 1) }
+    ensures long { array_string_len page.new ≤ 8000 }
+    ensures bytes { Listed settings.now (left lines.old) (page.new.bytes ++ closing (ending result)) }
 {
     let sets = settings.geometry.sets() as usize;
     let mut counts = [0u32; SETS];
     let mut tally = Tally::new(*settings, &mut counts[..sets]);
     let end = tally.count_trace(lines);
-    let mut page = table_of(tally.counts());
-    if let Err(fault) = end {
-        write_stop(&mut page, &fault);
-    }
-    page
+    write_table(page, tally.counts());
+    end
 }
 
-// What is printed of an input that is refused at once: the whole of it, which has no line and prints 0 and 0, or its first line.
-fn refused(cause: Refusal, line: usize, column: usize) -> Page
-    ensures { result.bytes ≡ stop cause line column }
+// A refusal of the whole input, which has no line and prints 0 and 0, or of its first line.
+fn refused(cause: Refusal, line: usize, column: usize) -> TextFault
+    ensures { result ≡ record { fault = record { cause = cause; column = column }; line = line } }
 {
-    let fault = LineFault { cause, column };
-    let mut page = Page::new();
-    write_stop(&mut page, &TextFault { fault, line });
-    page
+    TextFault {
+        fault: LineFault { cause, column },
+        line,
+    }
+}
+
+// What is printed of an input, but for the line that tells a refusal.
+fn list_input(input: &[u8], page: &mut Page) -> Result<(), TextFault>
+    requires { page.old.bytes ≡ [] }
+    ensures long { array_string_len page.new ≤ 8000 }
+    ensures bytes { Printed input.now (page.new.bytes ++ closing (ending result)) }
+{
+    if input.len() > LONGEST {
+        return Err(refused(Refusal::Input, 0, 0));
+    }
+    let mut lines = Lines::new(input);
+    let Some(first) = lines.next() else {
+        return Err(refused(Refusal::FirstLine, 1, 1));
+    };
+    match settings(first) {
+        Ok(settings) => list_trace(&settings, &mut lines, page),
+        Err(column) => Err(refused(Refusal::FirstLine, 1, column)),
+    }
+}
+
+// Puts the whole text that the program prints of its input on a lent page, in place of what stood there. The page is lent from call to call, since it has
+// 8,192 bytes, which each call that handed one back would clear and copy.
+pub fn put_text(input: &[u8], page: &mut ArrayString<ROOM>)
+    ensures { Printed input.now page.new.bytes }
+{
+    page.clear();
+    if let Err(fault) = list_input(input, page) {
+        write_stop(page, &fault);
+    }
 }
 
 // The whole text that the program prints of its input.
 pub fn text_of(input: &[u8]) -> ArrayString<ROOM>
     ensures { Printed input.now result.bytes }
 {
-    if input.len() > LONGEST {
-        return refused(Refusal::Input, 0, 0);
-    }
-    let mut lines = Lines::new(input);
-    let Some(first) = lines.next() else {
-        return refused(Refusal::FirstLine, 1, 1);
-    };
-    match settings(first) {
-        Ok(settings) => list_trace(&settings, &mut lines),
-        Err(column) => refused(Refusal::FirstLine, 1, column),
-    }
+    let mut page = Page::new();
+    put_text(input, &mut page);
+    page
 }
 
 // Makes the whole text that the program prints of its input, at the front of the output, and answers its length; or refuses an output that is too short for it.
 pub fn listing(input: &[u8], out: &mut [u8]) -> Result<usize, Refusal>
     ensures { Given input.now out.old result out.new }
 {
-    copy(text_of(input).as_str().as_bytes(), out)
+    let mut page = Page::new();
+    put_text(input, &mut page);
+    copy(page.as_str().as_bytes(), out)
 }
 
 // Copies a text to the front of the output, if it fits there.

@@ -1,5 +1,5 @@
 use geometry::refusal::Refusal;
-use listing::listing::{listing, text_of};
+use listing::listing::{listing, put_text, text_of};
 
 const INPUT: &[u8] = b"4 0 2 3 din lru\n0 10\n0 20\n0 30\n0 10\n0 20\n0 30\n";
 
@@ -38,4 +38,14 @@ fn texts_are_made(rt: HostRuntime) {
         "set touches\n0 1\nall 1\nstopped 12 line 3 column 1\n"
     );
     assert_eq!(rt; text_of(b"").as_str(), "stopped 9 line 1 column 1\n");
+}
+
+// A page that holds a text already is written anew.
+#[test]
+fn pages_are_written_anew(rt: HostRuntime) {
+    let mut page = text_of(b"4 0 2 3 din lru\n0 10\n4 10\n");
+    put_text(INPUT, &mut page);
+    assert_eq!(rt; page.as_str().as_bytes(), TEXT.as_slice());
+    put_text(b"", &mut page);
+    assert_eq!(rt; page.as_str(), "stopped 9 line 1 column 1\n");
 }

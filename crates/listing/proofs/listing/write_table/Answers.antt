@@ -1,8 +1,7 @@
 use Rattle.std.proofs.Common.{◌++◌, ap, ◌∙◌, arith}
 use Rattle.std.proofs.lemmas.List.Sums.{sum_by_more}
-use Rattle.listing.specs.Listing.{table}
 use Rattle.listing.proofs.Tables.{rows_of, more_rows, whole_table}
-use Rattle.listing.proofs.listing.table_of.Goals as goal
+use Rattle.listing.proofs.listing.write_table.Goals as goal
 
 pub loop-set-preserved : goal.loop-set-preserved
 loop-set-preserved c =
@@ -14,5 +13,5 @@ loop-set-preserved c =
 pub returns : goal.returns
 returns c = record {
   long = omega (arith, c.push_str-2.ensures.len, c.push_number.ensures.long, c.push_str-3.ensures.len);
-  bytes = λ s taken counted. whole_table s c.args.counts.now taken _ _ _ _ _ c.loop-set.set c.loop-set.all counted (omega arith) c.loop-set.invariant.2 (c.loop-set.invariant.1 ∙ ap (λ x. x ++ rows_of c.loop-set.set c.args.counts.now) c.push_str.ensures.bytes) c.push_str-2.ensures.bytes c.push_number.ensures.bytes c.push_str-3.ensures.bytes ∙ ap (λ p. p ++ table s taken) c.new-page.ensures;
+  bytes = λ s taken counted. whole_table s c.args.counts.now taken _ _ _ _ _ c.loop-set.set c.loop-set.all counted (omega arith) c.loop-set.invariant.2 (c.loop-set.invariant.1 ∙ ap (λ x. x ++ rows_of c.loop-set.set c.args.counts.now) c.push_str.ensures.bytes) c.push_str-2.ensures.bytes c.push_number.ensures.bytes c.push_str-3.ensures.bytes;
 }

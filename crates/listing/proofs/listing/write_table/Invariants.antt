@@ -1,7 +1,7 @@
 use Rattle.std.proofs.Common.{◌≡◌, ◌+◌, ◌*◌, ◌^◌, ◌≤◌, ◌++◌, take, sum}
 use Rattle.arrayvec.specs.ArrayString.{array_string_len}
 use Rattle.listing.proofs.Tables.{rows_of}
-use Rattle.listing.proofs.listing.table_of.Given as goal
+use Rattle.listing.proofs.listing.write_table.Given as goal
 
 abbrev pub invariant-loop-set : goal.invariant-loop-set
 invariant-loop-set l =
