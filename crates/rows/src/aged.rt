@@ -19,6 +19,10 @@ pub trait Aging: Copy {
 
     ghost laws: { RowLaws held_lines (λ _ x m. step x m) empty_row Fine };
 
+    // A row that holds nothing: the constant that stands with the rule.
+    fn blank() -> AgedRow<Self>
+        ensures { (w : ℕ) → w ≤ 16 → take w result.row.ways ≡ empty_row w };
+
     // Touches a line in the first `ways` ways of a row: whether it was held.
     fn touch(row: &mut WayRow, ways: usize, line: LineNumber) -> bool
         requires few { ways ≤ 16 }
@@ -51,10 +55,7 @@ impl<A: Aging> RowRule for AgedRow<A> {
     ghost laws = { A.laws };
 
     fn blank() -> AgedRow<A> {
-        AgedRow {
-            row: WayRow::EMPTY,
-            aging: PhantomData,
-        }
+        A::blank()
     }
 
     fn touch(&mut self, ways: usize, line: LineNumber) -> bool {

@@ -40,6 +40,10 @@ impl Aging for LruAging {
 
     ghost laws = { lru_laws };
 
+    fn blank() -> LruRow {
+        LruRow::EMPTY
+    }
+
     fn touch(row: &mut WayRow, ways: usize, line: LineNumber) -> bool {
         let fresh = Way {
             line,

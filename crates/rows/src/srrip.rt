@@ -42,6 +42,10 @@ impl Aging for SrripAging {
 
     ghost laws = { srrip_laws };
 
+    fn blank() -> SrripRow {
+        SrripRow::EMPTY
+    }
+
     fn touch(row: &mut WayRow, ways: usize, line: LineNumber) -> bool {
         if let Some(w) = find(&row.ways[..ways], line) {
             row.at(w).age = 0;

@@ -1,6 +1,6 @@
 use Rattle.std.proofs.lemmas.List.{take-replicate}
 use Rattle.replacement.specs.Ways.{no_way}
-use Rattle.rows.proofs.aged.AgedRowRowRule.blank.Goals as goal
+use Rattle.rows.proofs.lru.LruAgingAging.blank.Goals as goal
 
 pub returns : goal.returns
-returns g c w h = take-replicate w 16 no_way h
+returns c w h = take-replicate w 16 no_way h
