@@ -1,6 +1,6 @@
 -- The steps on the memory of a set, and what they are on the one list of its occupancies. The places in the tree and in the array stand here by the
 -- names that the code gives them: o gaps stand in the tree, and a stretch of the array goes from start up to stop.
-use Rattle.std.proofs.Common.{◌≡◌, ℕ, ◌+◌, ◌-◌, ◌^◌, ◌<◌, ◌≤◌, min, ◌≢◌, List, [], ◌∷◌, ◌++◌, length, take, drop, set, sym, ap, ◌∙◌, subst, ap₂, subst₂, inl, inr, append_assoc, arith, length-append, length-set, length-take}
+use Rattle.std.proofs.Common.{◌≡◌, ℕ, ◌+◌, ◌-◌, ◌^◌, ◌<◌, ◌≤◌, min, ◌≢◌, List, [], ◌∷◌, ◌++◌, length, take, drop, set, refl, sym, ap, ◌∙◌, subst, ap₂, subst₂, inl, inr, append_assoc, arith, length-append, length-set, length-take}
 use Rattle.std.proofs.Math.Seq.{take-add}
 use Rattle.std.specs.List.{between}
 use Rattle.std.proofs.lemmas.List.{take-take, take_more_set}
@@ -17,9 +17,11 @@ use Rattle.ranges.proofs.Recents.{bump_take, between_take, between_clip}
 
 -- ---- how many stand where
 pub record Shape {K : Type 0} (a : Algebra K) (k n : ℕ) (nodes : List (Node K)) (recent : List ℕ) : Type 0 where
+  pub below : older n ≤ n
   pub tree : Tree a k (older n) nodes
   pub few : n - older n ≤ 127
   pub older_long : length (gaps k (older n) nodes) ≡ older n
+  pub newer_long : length (take (n - older n) recent) ≡ n - older n
   pub reach : n - older n ≤ length recent
   pub all_long : length (occupancies k n nodes recent) ≡ n
 
@@ -31,9 +33,11 @@ module _ {K : Type 0} {a : Algebra K} {k n : ℕ} {nodes : List (Node K)} {recen
       let reach : n - older n ≤ length recent = omega (arith, s.room, s.wide) in
       let newer_long : length (take (n - older n) recent) ≡ n - older n = length-take (n - older n) recent ∙ omega arith in
       record {
+        below = omega arith;
         tree = tree;
         few = omega arith;
         older_long = gaps_long tree;
+        newer_long = newer_long;
         reach = reach;
         all_long = length-append (gaps k (older n) nodes) (take (n - older n) recent) ∙ omega (arith, gaps_long tree, newer_long);
       }
@@ -48,9 +52,11 @@ pub record After {K : Type 0} (a : Algebra K) (k n : ℕ) (nodes : List (Node K)
 
 -- ---- a question
 pub record Asking {K : Type 0} (a : Algebra K) (fits : K → Type 0) (k n from to : ℕ) (nodes : List (Node K)) (recent : List ℕ) (o end start stop : ℕ) : Type 0 where
+  pub shaped : Shape a k n nodes recent
   pub tree : Tree a k o nodes
   pub older_small : Small (gaps k o nodes)
   pub newer_small : Small (between start stop recent)
+  pub none : min to n ≤ from → a.none ≡ summary a (between from to (occupancies k n nodes recent))
   pub newest : (v : K) → v ≡ summary a (between start stop recent) → o ≤ from → v ≡ summary a (between from to (occupancies k n nodes recent))
   pub joins : (u v : K) → u ≡ summary a (between from end (gaps k o nodes)) → v ≡ summary a (between start stop recent) → fits (a.join u v)
   pub sums : (u v : K) → u ≡ summary a (between from end (gaps k o nodes)) → v ≡ summary a (between start stop recent) → a.join u v ≡ summary a (between from to (occupancies k n nodes recent))
@@ -78,9 +84,11 @@ module _ {K : Type 0} {a : Algebra K} {k n from to : ℕ} {nodes : List (Node K)
       let small : Small (p ++ q) = subst Small cut (small_between from to (g ++ t) s.small) in
       let joined : (u v : K) → u ≡ summary a p → v ≡ summary a q → a.join u v ≡ summary a (p ++ q) = λ u v us vs. ap₂ a.join us vs ∙ sym (summary_append laws p q) in
       record {
+        shaped = h;
         tree = h.tree;
         older_small = small_left g t s.small;
         newer_small = small_right p q small;
+        none = λ le. nothing s from to refl le a.none refl;
         newest = λ v vs le. vs ∙ ap (summary a) (sym (cut ∙ ap (λ w. w ++ q) (between_none from e g (inr (omega (arith, h.older_long))))));
         joins = λ u v us vs. subst fits (sym (joined u v us vs)) (fit (p ++ q) small);
         sums = λ u v us vs. joined u v us vs ∙ ap (summary a) (sym cut);
@@ -96,12 +104,14 @@ module _ {K : Type 0} {a : Algebra K} {k n from to : ℕ} {nodes : List (Node K)
 
 -- ---- a raise, of the first `cut` gaps in the tree
 pub record Lifting {K : Type 0} (a : Algebra K) (k n from to : ℕ) (nodes : List (Node K)) (recent : List ℕ) (o start stop : ℕ) : Type 0 where
+  pub shaped : Shape a k n nodes recent
   pub within : stop ≤ length recent
   pub low : Within 16 (bump start stop (take stop recent))
   pub tree : Tree a k o nodes
   pub older_small : {cut : ℕ} → cut ≡ min to o → Small (bump from cut (gaps k o nodes))
   pub over : {cut : ℕ} {nodes_after : List (Node K)} {recent_after : List ℕ} → cut ≡ min to o → Tree a k o nodes_after → gaps k o nodes_after ≡ bump from cut (gaps k o nodes) → recent_after ≡ bump start stop recent
       → After a k n nodes_after recent_after (bump from to (occupancies k n nodes recent))
+  pub unraised : o ≤ from → gaps k o nodes ≡ bump from (min to o) (gaps k o nodes)
   pub idle : {recent_after : List ℕ} → o ≤ from → recent_after ≡ bump start stop recent → After a k n nodes recent_after (bump from to (occupancies k n nodes recent))
 
 module _ {K : Type 0} {a : Algebra K} {k n from to : ℕ} {nodes : List (Node K)} {recent : List ℕ} where
@@ -126,13 +136,16 @@ module _ {K : Type 0} {a : Algebra K} {k n from to : ℕ} {nodes : List (Node K)
         sound = record { long = tree.long; wide = ap length was ∙ length_bump (from - o) (to - o) recent ∙ s.wide; room = s.room; good = tree.good; small = subst Small (sym all) small };
         lists = all;
       } in
+      let unraised : o ≤ from → g ≡ u = λ le. sym (bump_none from (min to o) g (omega arith)) in
       record {
+        shaped = h;
         within = omega (arith, h.reach);
         low = subst (Within 16) front (within_take 16 (to - o) v (small_right u v parts).low);
         tree = h.tree;
         older_small = λ e. rw e (small_left u v parts);
         over = λ e tree is was. over _ _ tree (rw e at is) was;
-        idle = λ le was. over _ _ h.tree (sym (bump_none from (min to o) g (omega arith))) was;
+        unraised = unraised;
+        idle = λ le was. over _ _ h.tree (unraised le) was;
       }
 
   pub lifting : Sound a k n nodes recent → to ≤ length (occupancies k n nodes recent) → Small (bump from to (occupancies k n nodes recent)) → {o start stop : ℕ} → o ≡ older n → start ≡ from - o → stop ≡ to - o
@@ -158,6 +171,7 @@ pub record Moving {K : Type 0} (a : Algebra K) (k n : ℕ) (nodes : List (Node K
       → length recent_after ≡ length written → take 64 recent_after ≡ take 64 (drop 64 written) → After a k (n + 1) nodes_after recent_after (occupancies k n nodes recent ++ (0 ∷ []))
 
 pub record Pushing {K : Type 0} (a : Algebra K) (k n : ℕ) (nodes : List (Node K)) (recent : List ℕ) (o : ℕ) : Type 0 where
+  pub shaped : Shape a k n nodes recent
   pub tree : Tree a k o nodes
   pub index : n - o < length recent
   pub few : n < 2 ^ 20
@@ -178,6 +192,7 @@ module _ {K : Type 0} {a : Algebra K} {k n : ℕ} {nodes : List (Node K)} {recen
       let all : g ++ take (n - o + 1) written ≡ (g ++ t) ++ (0 ∷ []) = ap (◌++◌ g) newer ∙ sym (append_assoc g t (0 ∷ [])) in
       let small : Small ((g ++ t) ++ (0 ∷ [])) = small_push (g ++ t) s.small (omega (arith, h.all_long)) in
       record {
+        shaped = h;
         tree = h.tree;
         index = index;
         few = few;

@@ -72,13 +72,14 @@ pub record Extending {K : Type 0} (a : Algebra K) (fits : K → Type 0) (k j n :
   pub left_small : Small (gaps j (min n (leaves j)) l ++ first)
   pub right_small : Small (gaps j (n - leaves j) r ++ rest)
   pub joins : (u v : K) → u ≡ summary a (gaps j (min n (leaves j)) l ++ first) → v ≡ summary a (gaps j (n - leaves j) r ++ rest) → fits (a.join u v)
+  pub sums : a.join (summary a (gaps j (min n (leaves j)) l ++ first)) (summary a (gaps j (n - leaves j) r ++ rest)) ≡ summary a (gaps k n xs ++ block)
   pub over : (u v w : K) → u ≡ summary a (gaps j (min n (leaves j)) l ++ first) → v ≡ summary a (gaps j (n - leaves j) r ++ rest) → w ≡ a.join u v → (m o : List (Node K))
       → Tree a j (min n (leaves j) + length first) m → gaps j (min n (leaves j) + length first) m ≡ gaps j (min n (leaves j)) l ++ first
       → Tree a j (n - leaves j + length rest) o → gaps j (n - leaves j + length rest) o ≡ gaps j (n - leaves j) r ++ rest
       → Built a k (n + length block) (record { value = w; pending = x.pending }) (m ++ o) (gaps k n xs ++ block)
 
 module _ {K : Type 0} {a : Algebra K} (laws : Laws a) (fits : K → Type 0) (fit : Fit a fits) where
-  extending : {k j n : ℕ} {xs : List (Node K)} {x : Node K} {l r : List (Node K)} → Fork a k j n xs x l r → (first rest block : List ℕ) → n + length block ≤ leaves k → 0 < length block
+  pub extending : {k j n : ℕ} {xs : List (Node K)} {x : Node K} {l r : List (Node K)} → Fork a k j n xs x l r → (first rest block : List ℕ) → n + length block ≤ leaves k → 0 < length block
       → first ++ rest ≡ block → length first ≡ min (length block) (leaves j - n) → Small (gaps k n xs ++ block) → Extending a fits k j n xs x l r first rest block
   extending {k} {j} {n} {xs} {x} {l} {r} f first rest block room some is cut small =
       let c = leaves j in
@@ -99,6 +100,7 @@ module _ {K : Type 0} {a : Algebra K} (laws : Laws a) (fits : K → Type 0) (fit
         left_small = small_left (gl ++ first) (gr ++ rest) both;
         right_small = small_right (gl ++ first) (gr ++ rest) both;
         joins = λ u v us vs. subst fits (sym (joined u v us vs)) (fit (gaps k n xs ++ block) small);
+        sums = joined _ _ refl refl;
         over = λ u v w us vs ws m o tm gm to go.
             let i : min n c + length first ≡ min (n + length block) c = omega arith in
             let e : n - c + length rest ≡ n + length block - c = omega arith in

@@ -27,7 +27,7 @@ root_low m (suc k) n x hs e some w =
     omega (arith, low)
 
 module _ {K : Type 0} {a : Algebra K} (laws : Laws a) where
-  raised_root : (k n : ℕ) (x : Node K) (hs : List (Node K)) (v : K) → Tree a k n (x ∷ hs) → leaves k ≤ n → v ≡ ups a 1 x.value → Built a k n (record { value = v; pending = x.pending + 1 }) hs (lift 1 (gaps k n (x ∷ hs)))
+  pub raised_root : (k n : ℕ) (x : Node K) (hs : List (Node K)) (v : K) → Tree a k n (x ∷ hs) → leaves k ≤ n → v ≡ ups a 1 x.value → Built a k n (record { value = v; pending = x.pending + 1 }) hs (lift 1 (gaps k n (x ∷ hs)))
   raised_root zero zero x hs v t full is = let z : ⊥ = omega arith in absurd z
   raised_root zero (suc n) x hs v t full is =
       let value = is ∙ ap (ups a 1) t.good ∙ sym (summary_lift laws 1 (x.pending ∷ [])) in
@@ -43,6 +43,9 @@ module _ {K : Type 0} {a : Algebra K} (laws : Laws a) where
       }
 
 pub record Whole {K : Type 0} (a : Algebra K) (fits : K → Type 0) (k n from to : ℕ) (xs : List (Node K)) (x : Node K) (hs : List (Node K)) : Type 0 where
+  pub full : leaves k ≤ n
+  pub all : lift 1 (gaps k n xs) ≡ bump from to (gaps k n xs)
+  pub sum : ups a 1 x.value ≡ summary a (bump from to (gaps k n xs))
   pub raises : fits (ups a 1 x.value)
   pub low : x.pending + 1 ≤ 16
   pub over : (v : K) → v ≡ ups a 1 x.value → Built a k n (record { value = v; pending = x.pending + 1 }) hs (bump from to (gaps k n xs))
@@ -53,6 +56,7 @@ pub record Raising {K : Type 0} (a : Algebra K) (fits : K → Type 0) (k j n fro
   pub left_small : Small (bump from (min to (leaves j)) (gaps j (min n (leaves j)) l))
   pub right_small : Small (bump (from - leaves j) (to - leaves j) (gaps j (n - leaves j) r))
   pub joins : (u v : K) → u ≡ summary a (bump from (min to (leaves j)) (gaps j (min n (leaves j)) l)) → v ≡ summary a (bump (from - leaves j) (to - leaves j) (gaps j (n - leaves j) r)) → fits (a.join u v)
+  pub sums : ups a x.pending (a.join (summary a (bump from (min to (leaves j)) (gaps j (min n (leaves j)) l))) (summary a (bump (from - leaves j) (to - leaves j) (gaps j (n - leaves j) r)))) ≡ summary a (bump from to (gaps k n xs))
   pub raises : (u v w : K) → u ≡ summary a (bump from (min to (leaves j)) (gaps j (min n (leaves j)) l)) → v ≡ summary a (bump (from - leaves j) (to - leaves j) (gaps j (n - leaves j) r)) → w ≡ a.join u v → fits (ups a x.pending w)
   pub over : (u v w z : K) → u ≡ summary a (bump from (min to (leaves j)) (gaps j (min n (leaves j)) l)) → v ≡ summary a (bump (from - leaves j) (to - leaves j) (gaps j (n - leaves j) r)) → w ≡ a.join u v → z ≡ ups a x.pending w
       → (m o : List (Node K)) → Tree a j (min n (leaves j)) m → gaps j (min n (leaves j)) m ≡ bump from (min to (leaves j)) (gaps j (min n (leaves j)) l)
@@ -73,6 +77,9 @@ module _ {K : Type 0} {a : Algebra K} (laws : Laws a) (fits : K → Type 0) (fit
       let sum : ups a 1 x.value ≡ summary a (bump from to (gaps k n xs)) = ap (ups a 1) (root_is t is) ∙ sym (summary_lift laws 1 (gaps k n xs)) ∙ ap (summary a) (sym all) in
       let those : bump from to (gaps k n xs) ≡ lift 1 (gaps k n (x ∷ hs)) = all ∙ ap (λ ys. lift 1 (gaps k n ys)) is in
       record {
+        full = full;
+        all = sym all;
+        sum = sum;
         raises = subst fits (sym sum) (fit (bump from to (gaps k n xs)) small);
         low = root_low 16 k n x hs (ap (λ ys. length (gaps k n ys)) (sym is) ∙ long) (omega arith) (subst (Within 16) those small.low);
         over = λ v v_is. subst (Built a k n (record { value = v; pending = x.pending + 1 }) hs) (sym those) (raised_root laws k n x hs v (subst (Tree a k n) is t) full v_is);
@@ -95,6 +102,7 @@ module _ {K : Type 0} {a : Algebra K} (laws : Laws a) (fits : K → Type 0) (fit
         left_small = small_left p q both;
         right_small = small_right p q both;
         joins = λ u v us vs. subst fits (sym (joined u v us vs)) (fit (p ++ q) both);
+        sums = raised _ _ _ refl refl refl;
         raises = λ u v w us vs ws. subst fits (sym (raised u v w us vs ws)) (fit gs small);
         over = λ u v w z us vs ws zs m o tm gm to' go.
             built (record { value = z; pending = x.pending }) m o gs f.up room tm to' (ap₂ (λ s t. lift x.pending (s ++ t)) gm go ∙ sym cut) (zs ∙ raised u v w us vs ws) f.idle;
