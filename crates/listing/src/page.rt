@@ -9,6 +9,7 @@ use itoa::Buffer;
 pub(crate) type Page = ArrayString<ROOM>;
 
 // A number in decimal digits, of which there are at most 20.
+#[inline]
 pub(crate) fn push_number(page: &mut Page, n: u64)
     requires { array_string_len page.old + 20 ≤ 8192 }
     ensures bytes { page.new.bytes ≡ page.old.bytes ++ decimal n }
