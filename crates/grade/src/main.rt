@@ -4,7 +4,7 @@
 use arrayvec::ArrayString;
 use listing::listing::put_text;
 use std::io;
-use std::io::Read;
+use std::io::{Read, Write};
 
 // One byte more than the listing takes, so that a longer input is told from one that just fits.
 const INPUT: u64 = 16385;
@@ -14,5 +14,5 @@ fn main(rt: HostRuntime) -> io::Result<()> {
     let _ = rt.stdin().take(INPUT).read_to_end(&mut input)?;
     let mut page = ArrayString::new();
     put_text(&input, &mut page);
-    rt.print(page.as_str())
+    rt.stdout().write_all(page.as_str().as_bytes())
 }

@@ -3,13 +3,14 @@
 
 use arrayvec::ArrayString;
 use listing::listing::{ROOM, put_text};
+use std::io::Write;
 use std::{env, fs, io};
 
 fn print_listing(rt: &HostRuntime, name: &str, page: &mut ArrayString<ROOM>) -> io::Result<()> {
     let input = fs::read(rt, name)?;
     println!(rt; "{name}")?;
     put_text(&input, page);
-    rt.print(page.as_str())
+    rt.stdout().write_all(page.as_str().as_bytes())
 }
 
 fn main(rt: HostRuntime) -> io::Result<()> {
