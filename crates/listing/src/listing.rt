@@ -129,9 +129,9 @@ pub fn put_text(input: &[u8], page: &mut ArrayString<ROOM>)
 pub fn text_of(input: &[u8]) -> ArrayString<ROOM>
     ensures { Printed input.now result.bytes }
 {
-    let mut page = Page::new();
-    put_text(input, &mut page);
-    page
+    let mut text = Page::new();
+    put_text(input, &mut text);
+    text
 }
 
 // Makes the whole text that the program prints of its input, at the front of the output, and answers its length; or refuses an output that is too short for it.
