@@ -32,7 +32,7 @@ fn texts_are_cut(rt: HostRuntime) {
     }
 }
 
-// The number of the line that comes next. Of any reader it fits, by what the type keeps: no more lines were given than a text has bytes.
+// The number of the line that comes next. Of any reader it fits, by what the type keeps: the lines given and the bytes left are together below 2^63.
 fn upcoming(lines: &Lines) -> usize {
     lines.number() + 1
 }
